@@ -1,22 +1,22 @@
 -- Every call keeps the table, the marks and the writes within their bounds.
 use Prim.Native.Nat.{ℕ, _+_, _<_, _≤_}
 use native.Mathlib.Omega.{arith}
-use mathlib.Core.Bool.{Bool, true, false, cond, not, _&&_, _||_}
+use mathlib.Core.Bool.{Bool, true, false, cond, not, _||_}
 use mathlib.Core.List.{List, [], _∷_, _++_, map}
 use mathlib.Core.Option.{Option, none, some}
 use mathlib.Core.Path.{_≡_, refl, sym, subst, _∙_}
 use lib.ListN.{length, set}
-use lib.Dec.{eqb, ltb, leb}
+use lib.Dec.{eqb, ltb}
 use Rattle.std.specs.shelf.Lists.{kept-by}
 use Rattle.std.proofs.shelf.Lists.{length-map, length-push, length-set}
-use Rattle.std.proofs.shelf.Tests.{cond-both, both-ways, eqb-true, ltb-true, ltb-false, leb-false, not-false}
+use Rattle.std.proofs.shelf.Tests.{cond-both, both-ways}
 use Rattle.std.proofs.shelf.Elements.{all-push, all-kept-by}
 use Rattle.disk.specs.Medium.{Block, Write, lay, standing, passed, flushed, cut, Medium, Effect, join, settle, allowed, take-effect}
 use Rattle.table.specs.declared.held.Version.{Version}
 use Rattle.ordered_law.proofs.Lists.{all-map}
 use Rattle.ordered_law.proofs.Refusals.{unless-both, accepted}
 use Rattle.ordered_law.specs.Device.{Device}
-use Rattle.ordered_law.proofs.Sorted.{written, next-bad, newest, Sorted, SortedOutcome, sorted-opened, sorted-refusal, sorted-begin, sorted-finish, sorted-read, sorted-through, sorted-with, sorted-step, sorted-outcome, Asked, after}
+use Rattle.ordered_law.proofs.Sorted.{written, next-bad, newest, Sorted, SortedOutcome, sorted-refusal, sorted-begin, sorted-finish, sorted-read, sorted-through, sorted-with, sorted-step, sorted-outcome}
 use Rattle.precedence.specs.Stamps.{Precedence}
 use Rattle.table.specs.Versions.{live, reserves, held, some-pass, has-ticket, begun, finish-one, withdraw-one, send-one, bring-home, wait-again, reserved}
 use Rattle.ordered_law.specs.Ledger.{chosen}

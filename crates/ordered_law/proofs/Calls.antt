@@ -7,9 +7,8 @@ use mathlib.Core.Option.{Option, none, some}
 use mathlib.Core.Logic.{_⊎_, inl, inr, ⊎-elim}
 use mathlib.Core.Path.{_≡_, refl, sym, ap, subst, _∙_}
 use lib.ListN.{length}
-use lib.Dec.{eqb, ltb, leb}
+use lib.Dec.{eqb, ltb}
 use Rattle.errors.specs.declared.CacheError.the-variants as error
-use Rattle.std.specs.shelf.Lists.{kept-by}
 use Rattle.std.proofs.shelf.Tests.{eqb-true, both-ways, and-parts, not-true, cond-both}
 use Rattle.std.proofs.shelf.Ways.{tells}
 use Rattle.std.proofs.shelf.Elements.{all-weaker, all-push}
@@ -30,7 +29,7 @@ use Rattle.ordered_law.proofs.Refusals.{unless-both, accepted}
 use Rattle.std.specs.shelf.Lists.{All}
 use Rattle.ordered_law.specs.Events.{Call, Begin, Finish, Withdraw, Read, Step, Restart, Count}
 use Rattle.ordered_law.specs.Cache.{any-sent, any-busy}
-use Rattle.table.specs.Versions.{live, is-open, is-waiting, is-sent, finished, some-pass, has-ticket, begun, finish-one, withdraw-one, send-one, bring-home, wait-again, free, ready, reserved, held}
+use Rattle.table.specs.Versions.{live, is-open, is-waiting, is-sent, finished, some-pass, has-ticket, begun, finish-one, withdraw-one, send-one, bring-home, wait-again, free, ready, held}
 use Rattle.ordered_law.specs.Ledger.{chosen, note, send-chosen, replay}
 
 closed-by : (u : Version) (place : ℕ) → (live (u .state) ≡ true → (is-open (u .state) && eqb (u .stamp .place) place) ≡ false) → u .stamp .place ≡ place → is-open (u .state) ≡ false

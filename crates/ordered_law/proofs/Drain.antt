@@ -7,7 +7,7 @@ use mathlib.Core.Option.{Option, none, some}
 use mathlib.Core.Logic.{_⊎_, inl, inr, _≢_}
 use mathlib.Core.Path.{_≡_, refl, sym, ap, subst, _∙_}
 use lib.ListN.{length}
-use lib.Dec.{eqb, ltb}
+use lib.Dec.{eqb}
 use Rattle.disk.specs.declared.error.Kind.the-variants as kind
 use Rattle.errors.specs.declared.CacheError.{CacheError}
 use Rattle.errors.specs.declared.CacheCall.the-variants as during

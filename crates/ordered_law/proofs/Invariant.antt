@@ -82,14 +82,6 @@ pub record Inv (precedes : Precedence) (opening : List Block) (l : List Version)
 abbrev pub Keeps : Precedence → List Block → List Version → Sorted → Type 0
 Keeps precedes opening l c = Inv precedes opening l (c .medium) (c .table) (c .counter)
 
--- ---- states
-
-pub sent-finished : (s : State) → is-sent s ≡ true → finished s ≡ true
-sent-finished s h = grind arith
-
-pub sent-live : (s : State) → is-sent s ≡ true → live s ≡ true
-sent-live s h = grind arith
-
 -- ---- marks
 
 pub valid : (n : ℕ) (v : Version) → Sound n v → Valid (v .stamp)

@@ -21,13 +21,13 @@ use Rattle.table.specs.Rows.{in-rows}
 use Rattle.precedence.specs.Stamps.{Precedence, Lawful}
 use Rattle.table.specs.Versions.{finished, reserves}
 use Rattle.ordered_law.specs.Device.{Device}
-use Rattle.ordered_law.proofs.Sorted.{Sorted, SortedOutcome, sorted-outcome, sorted-opened, Asked, after, events, steps}
+use Rattle.ordered_law.proofs.Sorted.{Sorted, sorted-outcome, sorted-opened, Asked, after, events, steps}
 use Rattle.ordered_law.specs.Events.{Answer, Call, Step, Event}
 use Rattle.ordered_law.specs.Ledger.{replay}
 use Rattle.ordered_law.specs.Promise.{Shows, unhomed, bads}
 use Rattle.ordered_law.specs.Bounds.{Fitting, Bounded}
 use Rattle.ordered_law.specs.Cache.{Cache, fresh, opened, tally, tallied, outcome}
-use Rattle.ordered_law.specs.Runs.{event-of, Ran, started, called, Laws, Runs-on, Lawful-runs}
+use Rattle.ordered_law.specs.Runs.{event-of, Ran, started, called, Runs-on, Lawful-runs}
 
 module _ (precedes : Precedence) where
   events-append : (xs ys : List Asked) (c : Sorted) → events precedes c (xs ++ ys) ≡ events precedes c xs ++ events precedes (after precedes c xs) ys

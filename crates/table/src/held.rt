@@ -47,7 +47,7 @@ pub enum Row {
 }
 
 impl Row {
-    pub fn is_vacant(&self) -> bool
+    pub(crate) fn is_vacant(&self) -> bool
         ensures { λ r. ⌜ r ≡ is-vacant (now (self .entry)) ⌝ }
     {
         matches!(self, Row::Vacant)
@@ -94,7 +94,7 @@ pub enum Query {
 
 impl Query {
     // Whether the row holds what is looked for.
-    pub fn passes(self, row: &Row) -> bool
+    pub(crate) fn passes(self, row: &Row) -> bool
         ensures { λ r. ⌜ r ≡ row-passes (test self) (now (row .entry)) ⌝ }
     {
         match row {
@@ -135,7 +135,7 @@ pub enum Change {
 
 impl Change {
     // The row after the change.
-    pub fn on(self, row: Row) -> Row
+    pub(crate) fn on(self, row: Row) -> Row
         ensures { λ r. ⌜ r ≡ changed self row ⌝ }
     {
         let Row::Held(mut v) = row else {

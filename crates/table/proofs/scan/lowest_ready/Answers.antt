@@ -1,13 +1,12 @@
-use borrow.Author.Needs.{needs}
 use mathlib.Core.Path.{_≡_, sym, ap, subst, _∙_}
-use mathlib.Core.Bool.{Bool, true, false}
-use Prim.Native.Nat.{_<_, _≤_, _+_}
+use mathlib.Core.Bool.{true, false}
+use Prim.Native.Nat.{_+_}
 use native.Mathlib.Omega.{arith}
-use lib.ListN.{length, drop, getD}
+use lib.ListN.{drop, getD}
 use Rattle.table.specs.declared.held.Row.the-variants.{Vacant}
 use Rattle.precedence.specs.declared.Stamp.{Stamp}
 use Rattle.table.specs.Versions.{some-pass, ready}
-use Rattle.table.specs.Rows.{in-rows, row-passes, stamp-of}
+use Rattle.table.specs.Rows.{in-rows, stamp-of}
 use Rattle.table.specs.Scans.{in-table, lower-of, best-from, Lowest}
 use Rattle.table.proofs.Rowing.{some-here, some-later, some-end}
 use Rattle.table.proofs.Scanning.{lowest-found, lowest-within, before, skipped, taken, ended, not-waiting, preceded, is-ready}

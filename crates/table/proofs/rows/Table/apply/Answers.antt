@@ -1,8 +1,7 @@
-use borrow.Author.Needs.{needs}
-use mathlib.Core.Path.{_≡_, refl, sym, ap, _∙_}
+use mathlib.Core.Path.{ap, _∙_}
 use mathlib.Core.List.{_++_, map}
 use native.Mathlib.Omega.{arith}
-use lib.ListN.{length, take, drop, set, getD}
+use lib.ListN.{drop, set, getD}
 use Rattle.std.proofs.shelf.Lists.{drop-all, take-all, append-nil, getD-default}
 use Rattle.std.proofs.shelf.Edits.{map-over-more}
 use Rattle.table.specs.Rows.{changed}

@@ -1,4 +1,3 @@
-use borrow.Author.Needs.{needs}
 use mathlib.Core.Path.{ap}
 use lib.ListN.{set}
 use Rattle.table.proofs.Rowing.{marks-sent, held-sent}
