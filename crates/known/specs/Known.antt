@@ -5,6 +5,7 @@ use Prim.Native.Nat.{ℕ}
 use lib.ListN.{getD}
 use Rattle.disk.specs.Medium.{Block, good, bad, Medium, current, cut}
 use Rattle.retry.specs.Retried.{retried}
+use Rattle.ordered_law.specs.Known.{Known-ordered}
 
 -- firm block a, and b and then c loose at its place
 abbrev pub two-loose : Block → Block → Block → Medium
@@ -21,3 +22,5 @@ pub record Known-outcomes : Type 0 where
   pub first-stands : (a b c : Block) → shown-after 1 a b c ≡ b
   pub second-stands : (a b c : Block) → shown-after 2 a b c ≡ c
   pub both-stand : (a b c : Block) → shown-after 3 a b c ≡ c
+  -- precedences, and the last marks of the ordered cache
+  pub ordered : Known-ordered

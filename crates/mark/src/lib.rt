@@ -87,3 +87,23 @@ pub impl fmt::Display for Mark as MarkDisplay {
         write!(f, "{sign}{metres}.{thousandths:03}")
     }
 }
+
+#[cfg(test)]
+mod tests {
+    use super::*;
+    use std::test::*;
+
+    #[test]
+    fn metres_have_three_decimals(rt: LibcRuntime) -> Result<(), Fail> {
+        let near = Mark {
+            side: Side::Upstream,
+            millimetres: 5,
+        };
+        let far = Mark {
+            side: Side::Downstream,
+            millimetres: 12050,
+        };
+        check_eq(format!(rt.alloc(), "{near}")?.as_str(), "-0.005")?;
+        check_eq(format!(rt.alloc(), "{far}")?.as_str(), "+12.050")
+    }
+}

@@ -1,0 +1,17 @@
+pub mod Sorted
+pub mod Refusals
+pub mod Lists
+pub mod Invariant
+pub mod Firming
+pub mod Changes
+pub mod Storage
+pub mod Calls
+pub mod Drain
+pub mod Counting
+pub mod Bounding
+pub mod Picking
+pub mod Sorting
+pub mod Follow
+pub mod Running
+pub mod Orders
+pub mod Knowing

@@ -1,0 +1,9 @@
+pub mod Device
+pub mod Events
+pub mod Cache
+pub mod Ledger
+pub mod Promise
+pub mod Tallies
+pub mod Bounds
+pub mod Runs
+pub mod Known

@@ -1,0 +1,3 @@
+pub mod Versions
+pub mod Rows
+pub mod Scans
