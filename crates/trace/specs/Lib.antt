@@ -1,0 +1,4 @@
+pub mod Calls
+pub mod Format
+pub mod Lent
+pub mod Traces
