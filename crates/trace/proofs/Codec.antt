@@ -16,7 +16,7 @@ use Rattle.trace.specs.declared.call.Mode.{Mode}
 use Rattle.trace.specs.declared.call.Mode.the-variants.{Overlap, Line, Journaled}
 use Rattle.trace.specs.declared.call.TraceCall.{TraceCall}
 use Rattle.trace.specs.declared.call.TraceCall.the-variants.{Begin, Finish, Withdraw, Read, Step, Seal, Restart, Cut}
-use Rattle.trace.specs.Calls.{mode-byte, mode-of, retry-byte, retry-of, code-of, number-of, fill-of, two-bytes, call-bytes, call-of}
+use Rattle.trace.specs.Calls.{mode-byte, mode-of, flag-byte, flag-of, code-of, number-of, fill-of, two-bytes, call-bytes, call-of}
 use Rattle.trace.proofs.Parsing.{ending, found}
 use Rattle.trace.specs.Format.{Trace, Sections, section, sections, and-then, calls-of, decode, encode, all-entries, canonical, canonical-call, canonical-calls, calls-start}
 
@@ -37,9 +37,9 @@ mode-back Overlap = refl
 mode-back Line = refl
 mode-back Journaled = refl
 
-retry-back : (r : Bool) → retry-of (retry-byte r) ≡ Some r
-retry-back false = refl
-retry-back true = refl
+flag-back : (r : Bool) → flag-of (flag-byte r) ≡ Some r
+flag-back false = refl
+flag-back true = refl
 
 call-back : (c : TraceCall) → call-of (code-of c) (number-of c) (fill-of c) ≡ Some c
 call-back (Begin place fill) = refl
@@ -65,8 +65,8 @@ length-calls (c ∷ cs) = omega (arith, length-calls cs)
 sections-back : (t : Trace) → length (t .plan) ≤ 256 → length (t .calls) ≤ 1000 →
     sections (encode t) ≡ Some (record { mode = t .mode; retry = t .retry; plan = t .plan; calls = joined call-bytes (t .calls) })
 sections-back t p n =
-    ap (λ o. found o (retry-of (retry-byte (t .retry))) (section 256 1 rest)) (mode-back (t .mode))
-    ∙ ap (λ o. found (Some (t .mode)) o (section 256 1 rest)) (retry-back (t .retry))
+    ap (λ o. found o (flag-of (flag-byte (t .retry))) (section 256 1 rest)) (mode-back (t .mode))
+    ∙ ap (λ o. found (Some (t .mode)) o (section 256 1 rest)) (flag-back (t .retry))
     ∙ ap (λ o. found (Some (t .mode)) (Some (t .retry)) o) (section-back 256 1 (length (t .plan)) (t .plan) last p (omega arith))
     ∙ ap (λ bs. ending (t .mode) (t .retry) (t .plan) (section 1000 4 (two-bytes (length (t .calls)) ++ bs))) (sym (append-nil calls))
     ∙ ap (ending (t .mode) (t .retry) (t .plan)) (section-back 1000 4 (length (t .calls)) calls [] n (length-calls (t .calls)))
@@ -117,10 +117,10 @@ mode-byte-of (suc zero) m e = let q : Line ≡ m = cc in ap mode-byte q
 mode-byte-of (suc (suc zero)) m e = let q : Journaled ≡ m = cc in ap mode-byte q
 mode-byte-of (suc (suc (suc b))) m e = absurd (none-some e)
 
-retry-byte-of : (b : ℕ) (r : Bool) → retry-of b ≡ Some r → b ≡ retry-byte r
-retry-byte-of zero r e = let q : false ≡ r = cc in ap retry-byte q
-retry-byte-of (suc zero) r e = let q : true ≡ r = cc in ap retry-byte q
-retry-byte-of (suc (suc b)) r e = absurd (none-some e)
+flag-byte-of : (b : ℕ) (r : Bool) → flag-of b ≡ Some r → b ≡ flag-byte r
+flag-byte-of zero r e = let q : false ≡ r = cc in ap flag-byte q
+flag-byte-of (suc zero) r e = let q : true ≡ r = cc in ap flag-byte q
+flag-byte-of (suc (suc b)) r e = absurd (none-some e)
 
 -- a section that was found: its count, and where its entries lie
 record Counted (most width : ℕ) (bs front back : List ℕ) : Type 0 where
@@ -167,24 +167,24 @@ record Laid (bs : List ℕ) (s : Sections) : Type 0 where
   few-listed : listed ≤ 1000
   plan-size : length (s .plan) ≡ entries
   calls-size : length (s .calls) ≡ listed * 4
-  whole : bs ≡ 2 ∷ (mode-byte (s .mode) ∷ (retry-byte (s .retry) ∷ two-bytes entries ++ (s .plan ++ (two-bytes listed ++ s .calls))))
+  whole : bs ≡ 2 ∷ (mode-byte (s .mode) ∷ (flag-byte (s .retry) ∷ two-bytes entries ++ (s .plan ++ (two-bytes listed ++ s .calls))))
 
 laid : (bs : List ℕ) (s : Sections) → Bytes bs → sections bs ≡ Some s → Laid bs s
 laid [] s b e = absurd (none-some e)
 laid (x ∷ []) s b e = absurd (none-some e)
 laid (x ∷ (y ∷ [])) s b e = absurd (none-some e)
 laid (count ∷ (mode ∷ (retry ∷ bs))) s b e =
-    let first = cond-some (eqb count 2) (found (mode-of mode) (retry-of retry) (section 256 1 bs)) e in
-    let m = and-then-some (mode-of mode) (λ m. and-then (retry-of retry) (λ r. and-then (section 256 1 bs) (λ plan. ending m r (plan .0) (section 1000 4 (plan .1))))) (first .1) in
-    let r = and-then-some (retry-of retry) (λ r. and-then (section 256 1 bs) (λ plan. ending (m .0) r (plan .0) (section 1000 4 (plan .1)))) (m .2) in
+    let first = cond-some (eqb count 2) (found (mode-of mode) (flag-of retry) (section 256 1 bs)) e in
+    let m = and-then-some (mode-of mode) (λ m. and-then (flag-of retry) (λ r. and-then (section 256 1 bs) (λ plan. ending m r (plan .0) (section 1000 4 (plan .1))))) (first .1) in
+    let r = and-then-some (flag-of retry) (λ r. and-then (section 256 1 bs) (λ plan. ending (m .0) r (plan .0) (section 1000 4 (plan .1)))) (m .2) in
     let p = and-then-some (section 256 1 bs) (λ plan. ending (m .0) (r .0) (plan .0) (section 1000 4 (plan .1))) (r .2) in
     let c = and-then-some (section 1000 4 (p .0 .1)) (λ calls. cond (eqb (length (calls .1)) 0) (Some (record { mode = m .0; retry = r .0; plan = p .0 .0; calls = calls .0 })) None) (p .2) in
     let last = cond-some (eqb (length (c .0 .1)) 0) (Some (record { mode = m .0; retry = r .0; plan = p .0 .0; calls = c .0 .0 })) (c .2) in
     laid-by count mode retry bs (m .0) (r .0) (p .0 .0) (p .0 .1) (c .0 .0) (c .0 .1) s b
-    (eqb-true count 2 (first .0)) (mode-byte-of mode (m .0) (m .1)) (retry-byte-of retry (r .0) (r .1)) (p .1) (c .1) (eqb-true (length (c .0 .1)) 0 (last .0)) (last .1)
+    (eqb-true count 2 (first .0)) (mode-byte-of mode (m .0) (m .1)) (flag-byte-of retry (r .0) (r .1)) (p .1) (c .1) (eqb-true (length (c .0 .1)) 0 (last .0)) (last .1)
   where
     laid-by : (count mode retry : ℕ) (bs : List ℕ) (m : Mode) (r : Bool) (plan behind calls none : List ℕ) (s : Sections) → Bytes (count ∷ (mode ∷ (retry ∷ bs))) →
-        count ≡ 2 → mode ≡ mode-byte m → retry ≡ retry-byte r → section 256 1 bs ≡ Some (plan, behind) → section 1000 4 behind ≡ Some (calls, none) →
+        count ≡ 2 → mode ≡ mode-byte m → retry ≡ flag-byte r → section 256 1 bs ≡ Some (plan, behind) → section 1000 4 behind ≡ Some (calls, none) →
         length none ≡ 0 → Some (record { mode = m; retry = r; plan = plan; calls = calls }) ≡ Some s → Laid (count ∷ (mode ∷ (retry ∷ bs))) s
     laid-by count mode retry bs m r plan behind calls none s b ce me re pe ke ne se =
         let p = counted 256 1 bs plan behind (bytes-behind (count ∷ (mode ∷ (retry ∷ []))) bs b) pe in
@@ -199,7 +199,7 @@ laid (count ∷ (mode ∷ (retry ∷ bs))) s b e =
           plan-size = omega (arith, p .size);
           calls-size = k .size;
           whole = ap (λ x. x ∷ (mode ∷ (retry ∷ bs))) ce ∙ ap (λ x. 2 ∷ (x ∷ (retry ∷ bs))) me ∙ ap (λ x. 2 ∷ (mode-byte m ∷ (x ∷ bs))) re
-              ∙ ap (λ xs. 2 ∷ (mode-byte m ∷ (retry-byte r ∷ xs))) (p .laid ∙ ap (λ xs. two-bytes (p .count) ++ (plan ++ xs)) (k .laid
+              ∙ ap (λ xs. 2 ∷ (mode-byte m ∷ (flag-byte r ∷ xs))) (p .laid ∙ ap (λ xs. two-bytes (p .count) ++ (plan ++ xs)) (k .laid
               ∙ ap (λ xs. two-bytes (k .count) ++ (calls ++ xs)) (nil-from-length none ne) ∙ ap (λ xs. two-bytes (k .count) ++ xs) (append-nil calls)));
         })
 
@@ -247,7 +247,7 @@ listed (code ∷ (low ∷ (high ∷ (fill ∷ bs)))) cs b e =
 
 -- the input up to the calls
 abbrev front : Mode → Bool → List ℕ → ℕ → List ℕ
-front m r plan n = 2 ∷ (mode-byte m ∷ (retry-byte r ∷ two-bytes (length plan) ++ (plan ++ two-bytes n)))
+front m r plan n = 2 ∷ (mode-byte m ∷ (flag-byte r ∷ two-bytes (length plan) ++ (plan ++ two-bytes n)))
 
 canonical-at : (m : Mode) (r : Bool) (plan calls : List ℕ) (n : ℕ) → canonical (front m r plan n ++ calls) ≡ front m r plan n ++ canonical-calls calls
 canonical-at m r plan calls n =
@@ -267,8 +267,8 @@ canonical-at m r plan calls n =
 shape : (bs : List ℕ) (s : Sections) (l : Laid bs s) → bs ≡ front (s .mode) (s .retry) (s .plan) (l .listed) ++ s .calls
 shape bs s l =
     l .whole
-    ∙ ap (λ k. 2 ∷ (mode-byte (s .mode) ∷ (retry-byte (s .retry) ∷ two-bytes k ++ (s .plan ++ (two-bytes (l .listed) ++ s .calls))))) (sym (l .plan-size))
-    ∙ ap (λ xs. 2 ∷ (mode-byte (s .mode) ∷ (retry-byte (s .retry) ∷ two-bytes (length (s .plan)) ++ xs))) (sym (append-assoc (s .plan) (two-bytes (l .listed)) (s .calls)))
+    ∙ ap (λ k. 2 ∷ (mode-byte (s .mode) ∷ (flag-byte (s .retry) ∷ two-bytes k ++ (s .plan ++ (two-bytes (l .listed) ++ s .calls))))) (sym (l .plan-size))
+    ∙ ap (λ xs. 2 ∷ (mode-byte (s .mode) ∷ (flag-byte (s .retry) ∷ two-bytes (length (s .plan)) ++ xs))) (sym (append-assoc (s .plan) (two-bytes (l .listed)) (s .calls)))
 
 calls-bytes : (bs : List ℕ) (s : Sections) → Bytes bs → Laid bs s → Bytes (s .calls)
 calls-bytes bs s b l = bytes-behind (front (s .mode) (s .retry) (s .plan) (l .listed)) (s .calls) (subst Bytes (shape bs s l) b)
@@ -280,7 +280,7 @@ canonical-by bs s cs b l e =
     ∙ canonical-at (s .mode) (s .retry) (s .plan) (s .calls) (l .listed)
     ∙ ap (λ xs. start (l .listed) ++ xs) (all .same)
     ∙ ap (λ n. start n ++ joined call-bytes cs) (let q : l .listed ≡ length cs = omega (arith, l .calls-size, all .size) in q)
-    ∙ ap (λ xs. 2 ∷ (mode-byte (s .mode) ∷ (retry-byte (s .retry) ∷ two-bytes (length (s .plan)) ++ xs))) (append-assoc (s .plan) (two-bytes (length cs)) (joined call-bytes cs))
+    ∙ ap (λ xs. 2 ∷ (mode-byte (s .mode) ∷ (flag-byte (s .retry) ∷ two-bytes (length (s .plan)) ++ xs))) (append-assoc (s .plan) (two-bytes (length cs)) (joined call-bytes cs))
   where
     start : ℕ → List ℕ
     start n = front (s .mode) (s .retry) (s .plan) n
@@ -320,7 +320,7 @@ decode-found bs s plan cs e a k p =
     ∙ ap (λ xs. Some (record { mode = s .mode; retry = s .retry; plan = xs; calls = cs })) (sym p)
 
 -- a flag as the code casts it
-flag : (b : Bool) → boolByte b ≡ retry-byte b
+flag : (b : Bool) → boolByte b ≡ flag-byte b
 flag false = refl
 flag true = refl
 
@@ -343,4 +343,4 @@ encoded-by t p q r s u v =
     k = two-bytes (length (t .plan))
 
     start : List ℕ
-    start = 2 ∷ (mode-byte (t .mode) ∷ (retry-byte (t .retry) ∷ []))
+    start = 2 ∷ (mode-byte (t .mode) ∷ (flag-byte (t .retry) ∷ []))

@@ -11,7 +11,7 @@ use Rattle.std.proofs.shelf.Lists.{take-rest}
 use Rattle.std.specs.declared.option.Option.{Option}
 use Rattle.std.specs.declared.option.Option.the-variants.{Some, None}
 use Rattle.trace.specs.declared.call.Mode.{Mode}
-use Rattle.trace.specs.Calls.{mode-of, retry-of}
+use Rattle.trace.specs.Calls.{mode-of, flag-of}
 use Rattle.trace.specs.Format.{Sections, section, sections, and-then}
 
 -- the number of the first two bytes
@@ -50,14 +50,14 @@ abbrev pub found : Option Mode → Option Bool → Option (List ℕ × List ℕ)
 found om or op = and-then om (λ m. and-then or (λ r. and-then op (λ plan. ending m r (plan .0) (section 1000 4 (plan .1)))))
 
 pub sections-by : (bs : List ℕ) (m : Mode) (r : Bool) (plan rest : List ℕ) → 3 ≤ length bs → getD bs 0 0 ≡ 2 →
-    mode-of (getD bs 1 0) ≡ Some m → retry-of (getD bs 2 0) ≡ Some r → section 256 1 (take (length bs - 3) (drop 3 bs)) ≡ Some (plan, rest) →
+    mode-of (getD bs 1 0) ≡ Some m → flag-of (getD bs 2 0) ≡ Some r → section 256 1 (take (length bs - 3) (drop 3 bs)) ≡ Some (plan, rest) →
     sections bs ≡ ending m r plan (section 1000 4 rest)
 sections-by [] m r plan rest h e me re pe = absurd (omega arith)
 sections-by (a ∷ []) m r plan rest h e me re pe = absurd (omega arith)
 sections-by (a ∷ (b ∷ [])) m r plan rest h e me re pe = absurd (omega arith)
 sections-by (count ∷ (mode ∷ (retry ∷ bs))) m r plan rest h e me re pe =
-    ap (λ t. cond t (found (mode-of mode) (retry-of retry) (section 256 1 bs)) None) (eq-eqb count 2 e)
-    ∙ ap (λ o. found o (retry-of retry) (section 256 1 bs)) me
+    ap (λ t. cond t (found (mode-of mode) (flag-of retry) (section 256 1 bs)) None) (eq-eqb count 2 e)
+    ∙ ap (λ o. found o (flag-of retry) (section 256 1 bs)) me
     ∙ ap (λ o. found (Some m) o (section 256 1 bs)) re
     ∙ ap (λ xs. found (Some m) (Some r) (section 256 1 xs)) (sym (take-rest (count ∷ (mode ∷ (retry ∷ bs))) 3))
     ∙ ap (λ o. found (Some m) (Some r) o) pe

@@ -19,13 +19,13 @@ mode-byte Journaled = 2
 abbrev pub mode-of : ℕ → Option Mode
 mode-of byte = getD (Some Overlap ∷ (Some Line ∷ (Some Journaled ∷ []))) byte None
 
--- retry layers: none, or one
-abbrev pub retry-byte : Bool → ℕ
-retry-byte false = 0
-retry-byte true = 1
+-- of retry layers 0 or 1, and of a plan's entries 0 for a good call and 1 for a bad one
+abbrev pub flag-byte : Bool → ℕ
+flag-byte false = 0
+flag-byte true = 1
 
-abbrev pub retry-of : ℕ → Option Bool
-retry-of byte = getD (Some false ∷ (Some true ∷ [])) byte None
+abbrev pub flag-of : ℕ → Option Bool
+flag-of byte = getD (Some false ∷ (Some true ∷ [])) byte None
 
 -- the number of a call, 0 where it has none
 abbrev pub number-of : TraceCall → ℕ

@@ -9,7 +9,7 @@ use Rattle.std.specs.declared.option.Option.{Option}
 use Rattle.std.specs.declared.option.Option.the-variants.{Some, None}
 use Rattle.trace.specs.declared.call.Mode.{Mode}
 use Rattle.trace.specs.declared.call.TraceCall.{TraceCall}
-use Rattle.trace.specs.Calls.{mode-byte, mode-of, retry-byte, retry-of, two-bytes, call-bytes, call-of}
+use Rattle.trace.specs.Calls.{mode-byte, mode-of, flag-byte, flag-of, two-bytes, call-bytes, call-of}
 
 -- what a trace says; of the plan's bytes 0 is a good call of the disk, and 1 a bad one
 pub record Trace : Type 0 where
@@ -21,7 +21,7 @@ pub record Trace : Type 0 where
 -- the options after their count, the plan after its own, and the calls after theirs
 abbrev pub encode : Trace → List ℕ
 encode t =
-    2 ∷ (mode-byte (t .mode) ∷ (retry-byte (t .retry) ∷
+    2 ∷ (mode-byte (t .mode) ∷ (flag-byte (t .retry) ∷
     two-bytes (length (t .plan)) ++ (t .plan ++
     (two-bytes (length (t .calls)) ++ joined call-bytes (t .calls)))))
 
@@ -56,7 +56,7 @@ sections (count ∷ []) = None
 sections (count ∷ (mode ∷ [])) = None
 sections (count ∷ (mode ∷ (retry ∷ rest))) =
     cond (eqb count 2)
-    (and-then (mode-of mode) (λ m. and-then (retry-of retry) (λ r.
+    (and-then (mode-of mode) (λ m. and-then (flag-of retry) (λ r.
     and-then (section 256 1 rest) (λ plan. and-then (section 1000 4 (plan .1)) (λ calls.
     cond (eqb (length (calls .1)) 0) (Some (record { mode = m; retry = r; plan = plan .0; calls = calls .0 })) None)))))
     None

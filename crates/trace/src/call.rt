@@ -1,5 +1,5 @@
 ghost use mathlib.Core.Path.{_≡_};
-ghost use Rattle.trace.specs.Calls.{mode-byte, mode-of, retry-of, code-of, call-bytes, call-of};
+ghost use Rattle.trace.specs.Calls.{mode-byte, mode-of, flag-of, code-of, call-bytes, call-of};
 
 // The bytes of an encoded call.
 pub const CALL_BYTES: usize = 4;
@@ -39,8 +39,8 @@ impl Mode {
 }
 
 // Whether a retry layer stands on the disk, from the number of layers.
-pub fn retry_from_byte(byte: u8) -> Option<bool>
-    ensures { λ r. ⌜ r ≡ retry-of byte ⌝ }
+pub fn flag_from_byte(byte: u8) -> Option<bool>
+    ensures { λ r. ⌜ r ≡ flag-of byte ⌝ }
 {
     match byte {
         0 => Some(false),

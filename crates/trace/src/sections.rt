@@ -6,7 +6,7 @@ ghost use Rattle.trace.specs.Format.{section as section-of, sections as sectio
 ghost use Rattle.trace.specs.Lent.{both-now, sections-now};
 use crate::call::CALL_BYTES;
 use crate::call::Mode;
-use crate::call::retry_from_byte;
+use crate::call::flag_from_byte;
 use crate::trace::CALLS_MAX;
 use crate::trace::PLAN_MAX;
 
@@ -48,7 +48,7 @@ pub fn split(bytes: &[u8]) -> Option<Sections<'_>>
         return None;
     }
     let mode = Mode::from_byte(*mode)?;
-    let retry = retry_from_byte(*retry)?;
+    let retry = flag_from_byte(*retry)?;
     let (plan, rest) = section(rest, PLAN_MAX, 1)?;
     let (calls, rest) = section(rest, CALLS_MAX, CALL_BYTES)?;
     if !rest.is_empty() {
