@@ -101,7 +101,7 @@ struct Story {
 impl Story {
     fn place(&self, random: &mut Random) -> u16 {
         match random.below(40) {
-            0 => random.next() as u16,
+            0 => random.word() as u16,
             1 => 50 + random.below(16) as u16,
             _ => random.below(self.places) as u16,
         }

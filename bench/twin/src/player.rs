@@ -8,6 +8,8 @@ use crate::trace::{Call, Mode, Trace};
 
 pub const SIZE: usize = 64;
 
+// A player has one cache, so the variants need not be of one size.
+#[allow(clippy::large_enum_variant)]
 enum Cache<D> {
     Ordered(Ordered<D>),
     Journaled(Journaled<D>),
