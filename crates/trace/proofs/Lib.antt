@@ -1,0 +1,4 @@
+pub mod Codec
+pub mod Growing
+pub mod Listing
+pub mod Parsing

@@ -1,0 +1,5 @@
+pub mod Building
+pub mod Calls
+pub mod Format
+pub mod Lent
+pub mod Traces
