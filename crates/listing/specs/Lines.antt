@@ -1,14 +1,13 @@
--- The text of a listing.
-use mathlib.Core.List.{List, [], _∷_, _++_}
+-- What is told of a call.
 use Prim.Native.Nat.{ℕ}
-use Rattle.std.specs.Written.{decimal}
-use Rattle.listing.specs.declared.Line.{Line}
+use Rattle.std.specs.declared.result.Result.{Result}
+use Rattle.std.specs.declared.result.Result.the-variants.{Ok, Err}
+use Rattle.trace.specs.declared.call.TraceCall.{TraceCall}
+use Rattle.trace.specs.Calls.{code-of}
+use Rattle.listing.specs.declared.line.Line.{Line}
+use Rattle.listing.specs.declared.play_error.PlayError.{PlayError}
+use Rattle.listing.specs.Errors.{play-number, play-value}
 
--- code, answer and value, with one space between
-abbrev pub line-text : Line → List ℕ
-line-text l = decimal (l .code) ++ (32 ∷ (decimal (l .answer) ++ (32 ∷ decimal (l .value))))
-
--- each line ends in byte 10
-abbrev pub listing : List Line → List ℕ
-listing [] = []
-listing (l ∷ ls) = line-text l ++ (10 ∷ listing ls)
+abbrev pub told : TraceCall → Result ℕ PlayError → Line
+told call (Ok value) = record { code = code-of call; answer = 0; value = value }
+told call (Err e) = record { code = code-of call; answer = play-number e; value = play-value e }

@@ -4,8 +4,8 @@ use Prim.Native.Nat.{_+_}
 use lib.ListN.{drop, getD}
 use Rattle.std.specs.Of.String.{string-bytes}
 use Rattle.std.proofs.shelf.Lists.{at-drop-more, at-drop-all, append-nil}
-use Rattle.listing.specs.Lines.{line-text, listing}
-use Rattle.listing.proofs.render.Needs as need
+use Rattle.listing.specs.Text.{line-text, listing}
+use Rattle.listing.proofs.text.render.Needs as need
 
 pub loop-line-holds : need.loop-line-holds
 loop-line-holds c = ap (λ bs. bs ++ listing (c .args .lines .now)) (c .new-text .ensures .bytes)
