@@ -1,0 +1,4 @@
+pub mod Model
+pub mod Grants
+pub mod Opening
+pub mod Reading
