@@ -59,6 +59,16 @@ code-of Seal = 6
 code-of (Restart choice) = 7
 code-of (Cut choice) = 8
 
+abbrev pub cut-choice : TraceCall → Option ℕ
+cut-choice (Begin place fill) = None
+cut-choice (Finish ticket) = None
+cut-choice (Withdraw ticket) = None
+cut-choice (Read place) = None
+cut-choice Step = None
+cut-choice Seal = None
+cut-choice (Restart choice) = None
+cut-choice (Cut choice) = Some choice
+
 -- a number of two bytes, the lower first
 abbrev pub two-bytes : ℕ → List ℕ
 two-bytes n = n % 256 ∷ (n / 256 ∷ [])

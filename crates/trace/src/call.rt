@@ -1,5 +1,5 @@
 ghost use mathlib.Core.Path.{_≡_};
-ghost use Rattle.trace.specs.Calls.{mode-byte, mode-of, flag-of, code-of, call-bytes, call-of};
+ghost use Rattle.trace.specs.Calls.{mode-byte, mode-of, flag-of, code-of, call-bytes, call-of, cut-choice};
 
 // The bytes of an encoded call.
 pub const CALL_BYTES: usize = 4;
@@ -76,6 +76,16 @@ impl TraceCall {
             TraceCall::Seal => 6,
             TraceCall::Restart { choice: _ } => 7,
             TraceCall::Cut { choice: _ } => 8,
+        }
+    }
+
+    // The choice of a cut; none where the call is another.
+    pub fn cut_choice(self) -> Option<u8>
+        ensures { λ r. ⌜ r ≡ cut-choice self ⌝ }
+    {
+        match self {
+            TraceCall::Cut { choice } => Some(choice),
+            _ => None,
         }
     }
 

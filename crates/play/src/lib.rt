@@ -1,0 +1,2 @@
+// Plays a trace and tells what each call answered.
+mod in_order;
