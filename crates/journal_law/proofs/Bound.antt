@@ -15,7 +15,8 @@ use Rattle.journal_law.specs.Device.{Device, bads}
 use Rattle.journal_law.specs.Cache.{Begun, Phase, slot, slots-flush, head, head-flush, home, homes-flush, empty, empty-flush, Group, Live, Call, begin, finish, withdraw, read, seal, step, restart, Outcome, decided, with-group, begin-refusal, begun, find, finished, withdrawn, cached, group-writes, read-shown, read-disk, read-refusal, seal-refusal, sealed, Disk-call, write, flush, phase-call, call-fate, next-phase, in-phase, good-medium, step-met, stepped, outcome-in}
 use Rattle.journal_law.specs.Ledger.{Sealing, Under-way, Ledger}
 use Rattle.journal_law.specs.Laws.{calls-left, step-count, Is-restart}
-use Rattle.journal_law.proofs.Media.{All, wrote-plan}
+use Rattle.std.specs.shelf.Lists.{All}
+use Rattle.journal_law.proofs.Media.{wrote-plan}
 use Rattle.journal_law.proofs.Tables.{some-same, none-some}
 use Rattle.journal_law.proofs.Invariant.{State, Invariant}
 use Rattle.journal_law.proofs.Calls.{decided-both}

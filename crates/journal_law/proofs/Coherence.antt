@@ -15,7 +15,8 @@ use Rattle.journal_law.specs.Device.{Device}
 use Rattle.head.specs.Head.{Head, holds, none-twice, fits}
 use Rattle.journal_law.specs.Cache.{Phase, slot, slots-flush, head, head-flush, home, homes-flush, empty, empty-flush, Group, Live, read, Answer, accepted, shown, refused, place-of, decided, cached, group-writes, read-shown, read-disk, outcome-in}
 use Rattle.journal_law.specs.Ledger.{Sealing, Under-way, Ledger, laid, write-of, by-mark}
-use Rattle.journal_law.proofs.Media.{All, Keeps, kept-current, over, getD-lay, length-lay}
+use Rattle.std.specs.shelf.Lists.{All}
+use Rattle.journal_law.proofs.Media.{Keeps, kept-current, over, getD-lay, length-lay}
 use Rattle.journal_law.proofs.Forms.{head-of, Idle, Logged, Replayed, Cleared, Names}
 use Rattle.head.proofs.RoundTrip.{decode-sound}
 use Rattle.journal_law.proofs.Start.{fits-parts}

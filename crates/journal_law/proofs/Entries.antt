@@ -14,7 +14,8 @@ use Rattle.disk.specs.Medium.{Block, Write, lay}
 use Rattle.head.specs.Head.{holds, all-below, none-twice}
 use Rattle.journal_law.specs.Cache.{Begun, place-of, begun-place, different, find, without, collect}
 use Rattle.journal_law.specs.Ledger.{laid}
-use Rattle.journal_law.proofs.Media.{All, All-map, All-push}
+use Rattle.std.specs.shelf.Lists.{All}
+use Rattle.journal_law.proofs.Media.{All-map, All-push}
 use Rattle.journal_law.proofs.Tables.{Before, Apart, Elsewhere, laid-more, holds-append, lay-collect, holds-collect, once-collect, below-collect, different-mono, find-in, all-without, apart-push, apart-without, apart-found, holds-found, holds-without, fresh-open}
 use Rattle.journal_law.proofs.Invariant.{Table}
 

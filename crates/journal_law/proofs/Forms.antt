@@ -12,11 +12,10 @@ use lib.Dec.{eqb}
 use Rattle.std.proofs.shelf.Lists.{length-set, getD-set-same, getD-set-other}
 use Rattle.std.proofs.shelf.Tests.{cases-eq, eq-eqb, eqb-true, eqb-false}
 use Rattle.disk.specs.Medium.{Effect, Block, Write, lay, Medium, current, passed, flushed, cut}
-use Rattle.journal_law.proofs.Media.{wrote}
+use Rattle.journal_law.proofs.Media.{wrote, Kept, Keeps, Allowed, kept-mono, kept-current, kept-flushed, kept-flush, kept-cut, kept-wrote, current-wrote, length-current, over, over-cases, over-twice, getD-set}
 use Rattle.head.specs.Head.{Head, encode, decode, empty-head}
 use Rattle.journal_law.specs.Recovery.{slot-place, head-write}
 use Rattle.journal_law.specs.Cache.{nth, place-of}
-use Rattle.journal_law.proofs.Media.{Kept, Keeps, Allowed, kept-mono, kept-current, kept-flushed, kept-flush, kept-cut, kept-wrote, current-wrote, length-current, over, over-cases, over-twice, getD-set}
 
 -- a rule by the three parts of the volume: home places, head, slots
 pub record Region (n : ℕ) (Home : ℕ → Block → Type 0) (Heading : Block → Type 0) (ws : List Write) (slots : Bool) (p : ℕ) (x : Block) : Type 0 where

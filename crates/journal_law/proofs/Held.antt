@@ -22,7 +22,8 @@ use Rattle.head.proofs.Bytes.{length-encode}
 use Rattle.journal_law.specs.Device.{Device}
 use Rattle.journal_law.specs.Cache.{Begun, Phase, slot, slots-flush, head, head-flush, home, homes-flush, empty, empty-flush, Group, Live, Call, begin, finish, withdraw, read, seal, step, restart, Answer, accepted, shown, refused, Outcome, place-of, begun-place, different, decided, begin-refusal, begun, find, without, collect, finished, withdrawn, cached, group-writes, read-shown, read-disk, read-refusal, is-some, seal-refusal, sealed, nth, group-head, phase-call, call-fate, next-phase, in-phase, step-met, stepped, group-restarted, restarted-phase, outcome-in}
 use Rattle.journal_law.specs.Ledger.{Sealing, Under-way, Ledger}
-use Rattle.journal_law.proofs.Media.{All, All-push}
+use Rattle.std.specs.shelf.Lists.{All}
+use Rattle.journal_law.proofs.Media.{All-push}
 use Rattle.journal_law.proofs.Forms.{Names}
 use Rattle.journal_law.proofs.Tables.{some-same, none-some, find-in, all-without}
 use Rattle.journal_law.proofs.Invariant.{In-phase, State, Invariant}

@@ -10,7 +10,8 @@ use Rattle.disk.specs.Medium.{Block, Write, lay, Medium, current}
 use Rattle.head.specs.Head.{Head, encode, decode, empty-head, all-below, none-twice}
 use Rattle.journal_law.specs.Cache.{Begun, Phase, slot, slots-flush, head, head-flush, home, homes-flush, empty, empty-flush, Group, Live, place-of, begun-place, different}
 use Rattle.journal_law.specs.Ledger.{Sealing, Under-way, Ledger, laid}
-use Rattle.journal_law.proofs.Media.{All, Kept, over}
+use Rattle.std.specs.shelf.Lists.{All}
+use Rattle.journal_law.proofs.Media.{Kept, over}
 use Rattle.journal_law.proofs.Forms.{head-of, Idle, Logged, Replayed, Cleared, Names, Fixed, To-lay, Slots-written}
 use Rattle.journal_law.proofs.Tables.{Before, Apart}
 

@@ -10,15 +10,12 @@ use lib.ListN.{length, set, getD}
 use lib.Dec.{eqb, leb}
 use Rattle.std.proofs.shelf.Lists.{length-set, getD-set-same, getD-set-other}
 use Rattle.std.proofs.shelf.Tests.{cases-eq, eq-eqb, ne-eqb, eqb-true, eqb-false}
+use Rattle.std.specs.shelf.Lists.{All}
 use Rattle.disk.specs.Medium.{Effect, Block, Write, lay, Medium, current, later, flushed, joined, settled, join, settle, allowed, take-effect, put, standing, cut}
 
 -- a good write by the disk's own effect
 abbrev pub wrote : Effect → Write → Medium → Medium
 wrote effect w m = put effect m w
-
-abbrev pub All : {A : Type 0} → (A → Type 0) → List A → Type 0
-All P [] = Unit {0}
-All P (x ∷ xs) = P x × All P xs
 
 pub All-push : {A : Type 0} (P : A → Type 0) (xs : List A) (y : A) → All P xs → P y → All P (xs ++ (y ∷ []))
 All-push P [] y a q = (q, tt)

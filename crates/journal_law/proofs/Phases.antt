@@ -10,12 +10,11 @@ use lib.ListN.{length, set, getD, drop}
 use lib.Dec.{eqb, ltb}
 use Rattle.std.proofs.shelf.Tests.{cases-eq, ltb-true, ltb-false, both-ways}
 use Rattle.disk.specs.Medium.{Effect, Block, Write, lay, Medium, current, passed, flushed, cut, standing}
-use Rattle.journal_law.proofs.Media.{wrote}
+use Rattle.journal_law.proofs.Media.{wrote, Kept, Keeps, Allowed, kept-mono, kept-current, kept-flushed, kept-cut, kept-wrote, length-current, over}
 use Rattle.head.specs.Head.{Head, encode, decode, empty-head}
 use Rattle.journal_law.specs.Recovery.{slot-place, head-write}
 use Rattle.journal_law.specs.Cache.{Phase, slot, slots-flush, head, head-flush, home, homes-flush, empty, empty-flush, Group, nth, group-head, phase-call, next-phase, restarted-phase, in-phase, good-medium}
 use Rattle.journal_law.specs.Ledger.{Sealing, Under-way, committed-by, in-phase-now, laid}
-use Rattle.journal_law.proofs.Media.{Kept, Keeps, Allowed, kept-mono, kept-current, kept-flushed, kept-cut, kept-wrote, length-current, over}
 use Rattle.journal_law.proofs.Forms.{Region, head-of, Idle, Logged, Replayed, Cleared, Names, Fixed, To-lay, Slots-written, at-head, at-slot, current-same, current-other, replayed-start, replayed-write, replayed-fixed, replayed-flush, cleared-write, cleared-flush}
 use Rattle.journal_law.proofs.Restore.{Sound, idle, replayed, cleared, Recovers, recovers-cut}
 use Rattle.journal_law.proofs.Invariant.{content, Over, In-phase, State}

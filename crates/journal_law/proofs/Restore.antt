@@ -12,12 +12,11 @@ use lib.Dec.{eqb, ltb}
 use Rattle.std.proofs.shelf.Lists.{length-map}
 use Rattle.std.proofs.shelf.Tests.{ne-eqb, ltb-true, ltb-false}
 use Rattle.disk.specs.Medium.{Effect, Block, Write, Entry, good, bad, due, Medium, current, passed, flushed, cut}
-use Rattle.journal_law.proofs.Media.{wrote}
+use Rattle.journal_law.proofs.Media.{wrote, Kept, Keeps, kept-current, kept-flush, kept-cut}
 use Rattle.journal_law.specs.Recovery.{by-entry}
 use Rattle.head.specs.Head.{Head, encode, decode, empty-head}
 use Rattle.journal_law.specs.Recovery.{Stage, first-flush, read-head, read-slot, write-home, home-flush, write-empty, last-flush, recovered, no-head, failed, Recovery, started, slot-place, head-write, head-seen, good-call, bad-call, one-call, calls, Broken, maybe-cut, after-broken}
 use Rattle.journal_law.specs.Cache.{nth, place-of}
-use Rattle.journal_law.proofs.Media.{Kept, Keeps, kept-current, kept-flush, kept-cut}
 use Rattle.journal_law.proofs.Forms.{Region, head-of, Idle, Replayed, Cleared, Names, Fixed, To-lay, replayed-start, replayed-write, replayed-fixed, replayed-flush, cleared-write, cleared-flush, cleared-again}
 
 -- a medium from which recovery answers k and shows t

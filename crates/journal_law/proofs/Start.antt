@@ -11,11 +11,11 @@ use lib.Dec.{eqb, ltb, leb}
 use Rattle.std.proofs.shelf.Lists.{length-map, nil-from-length}
 use Rattle.std.proofs.shelf.Tests.{eqb-true, eqb-false, ltb-true, lt-ltb, leb-true, le-leb, and-parts, and-from}
 use Rattle.disk.specs.Medium.{Effect, Block, Write, lay, Entry, due, Medium, current, passed, flushed, cut}
-use Rattle.journal_law.proofs.Media.{wrote}
+use Rattle.std.specs.shelf.Lists.{All}
+use Rattle.journal_law.proofs.Media.{wrote, Allowed, Kept, Keeps, kept-current, over, length-lay}
 use Rattle.head.specs.Head.{Head, encode, decode, empty-head, fits, all-below, none-twice}
 use Rattle.journal_law.specs.Recovery.{Stage, first-flush, read-head, read-slot, write-home, home-flush, write-empty, last-flush, recovered, no-head, failed, Recovery, started, slot-place, head-seen, good-call, bad-call, one-call, calls}
 use Rattle.journal_law.specs.Cache.{nth, place-of}
-use Rattle.journal_law.proofs.Media.{All, Allowed, Kept, Keeps, kept-current, over, length-lay}
 use Rattle.journal_law.proofs.Forms.{Region, head-of, Idle, Replayed, Names, To-lay, replayed-start}
 use Rattle.head.proofs.RoundTrip.{decode-encode, decode-sound}
 use Rattle.journal_law.proofs.Restore.{At, call-holds, by-entry-both, getD-places}

@@ -10,12 +10,11 @@ use lib.ListN.{length, getD}
 use lib.Dec.{ltb}
 use Rattle.std.proofs.shelf.Tests.{ltb-true, ltb-false}
 use Rattle.disk.specs.Medium.{Effect, Block, Write, lay, Medium, current, passed, flushed}
-use Rattle.journal_law.proofs.Media.{wrote}
+use Rattle.journal_law.proofs.Media.{wrote, Kept, Keeps}
 use Rattle.head.specs.Head.{Head, encode, decode, empty-head}
 use Rattle.journal_law.specs.Recovery.{slot-place, head-write}
 use Rattle.journal_law.specs.Cache.{Begun, Phase, slot, slots-flush, head, head-flush, home, homes-flush, empty, empty-flush, Group, nth, group-head, phase-call, next-phase, in-phase, good-medium}
 use Rattle.journal_law.specs.Ledger.{Sealing, Under-way, committed-by, in-phase-now, laid}
-use Rattle.journal_law.proofs.Media.{Kept, Keeps}
 use Rattle.journal_law.proofs.Forms.{Idle, Logged, Replayed, Cleared, Names, Fixed, To-lay, Slots-written, replayed-start, replayed-write, replayed-fixed, replayed-flush, cleared-write, cleared-flush}
 use Rattle.journal_law.proofs.Invariant.{content, Over, In-phase, State, last-sealed}
 use Rattle.journal_law.proofs.Phases.{Log, slot-done, slots-flushed, head-written, head-flushed}

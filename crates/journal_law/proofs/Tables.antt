@@ -14,7 +14,8 @@ use Rattle.disk.specs.Medium.{Block, Write, lay}
 use Rattle.head.specs.Head.{holds, all-below, none-twice}
 use Rattle.journal_law.specs.Cache.{Begun, place-of, begun-place, different, find, without, collect}
 use Rattle.journal_law.specs.Ledger.{insert-by-mark, by-mark, write-of, laid}
-use Rattle.journal_law.proofs.Media.{All, All-map, All-push}
+use Rattle.std.specs.shelf.Lists.{All}
+use Rattle.journal_law.proofs.Media.{All-map, All-push}
 
 -- writes that leave a place alone may be laid after a write at it
 pub lay-fresh : (ws : List Write) (bs : List Block) (q : ℕ) (b : Block) → All (λ (w : Write). w .place ≡ q → ⊥) ws →
