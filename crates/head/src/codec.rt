@@ -25,7 +25,7 @@ impl Head {
     }
 
     // A head of the first places of these.
-    pub fn new(number: u32, places: [u16; MOST_PLACES], count: usize) -> Head
+    pub fn new(number: u32, places: [usize; MOST_PLACES], count: usize) -> Head
         requires { ⌜ count ≤ 8 ⌝ }
         ensures value { λ r. ⌜ head-of r ≡ record { number = number; places = take count places } ⌝ }
         ensures count { λ r. ⌜ r .count ≡ count ⌝ }
@@ -38,7 +38,7 @@ impl Head {
     }
 
     // The home places.
-    pub fn places(&self) -> &[u16]
+    pub fn places(&self) -> &[usize]
         ensures { λ r. ⌜ now r ≡ head-of (now (self .entry)) .places ⌝ }
     {
         &self.places[..self.count]
@@ -57,7 +57,7 @@ impl Head {
         requires { ⌜ i < now self .count ⌝ }
         ensures { λ r. ⌜ r ≡ getD (head-of (now (self .entry)) .places) i 0 ⌝ }
     {
-        self.places[i] as usize
+        self.places[i]
     }
 
     // Whether the head can stand on a volume of so many home blocks.
@@ -98,9 +98,9 @@ fn candidate(block: &[u8]) -> Head
     let number = block[1] as u32
         + (256 * block[2] as u32 + (65_536 * block[3] as u32 + 16_777_216 * block[4] as u32));
     let count = block[5] as usize;
-    let mut places = [0u16; MOST_PLACES];
+    let mut places = [0usize; MOST_PLACES];
     for i in 0..count {
-        places[i] = block[6 + 2 * i] as u16 + 256 * block[7 + 2 * i] as u16;
+        places[i] = block[6 + 2 * i] as usize + 256 * block[7 + 2 * i] as usize;
     }
     Head {
         number,

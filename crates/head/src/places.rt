@@ -3,7 +3,7 @@ ghost use mathlib.Core.Path.{_≡_};
 ghost use Rattle.head.specs.Head.{holds, all-below, none-twice};
 
 // Is the place among these?
-pub fn is_among(place: u16, places: &[u16]) -> bool
+pub fn is_among(place: usize, places: &[usize]) -> bool
     ensures { λ r. ⌜ r ≡ holds place (now (places .entry)) ⌝ }
 {
     for p in places {
@@ -14,18 +14,18 @@ pub fn is_among(place: u16, places: &[u16]) -> bool
     false
 }
 
-pub fn are_below(places: &[u16], home: usize) -> bool
+pub fn are_below(places: &[usize], home: usize) -> bool
     ensures { λ r. ⌜ r ≡ all-below home (now (places .entry)) ⌝ }
 {
     for p in places {
-        if *p as usize >= home {
+        if *p >= home {
             return false;
         }
     }
     true
 }
 
-pub fn are_different(places: &[u16]) -> bool
+pub fn are_different(places: &[usize]) -> bool
     ensures { λ r. ⌜ r ≡ none-twice (now (places .entry)) ⌝ }
 {
     for i in 0..places.len() {

@@ -4,7 +4,7 @@ use mathlib.Core.Logic.{_⊎_, inl, inr, ⊎-elim}
 use mathlib.Core.List.{List, [], _∷_, _++_, map}
 use mathlib.Core.Bool.{Bool, true, false, cond}
 use mathlib.Core.Option.{Option, some, none}
-use Prim.Native.Nat.{ℕ, zero, suc, _+_, _-_, _<_, _≤_}
+use Prim.Native.Nat.{ℕ, zero, suc, _+_, _<_, _≤_}
 use native.Mathlib.Omega.{arith}
 use lib.ListN.{length, getD, take}
 use Rattle.std.proofs.shelf.Lists.{length-take-le, getD-take, ext-getD}
@@ -12,7 +12,7 @@ use Rattle.disk.specs.Medium.{Effect, Block, Write, lay, Medium, current, cut}
 use Rattle.errors.specs.declared.CacheError.{CacheError}
 use Rattle.head.specs.Head.{encode, decode, empty-head}
 use Rattle.journal_law.specs.Device.{Device}
-use Rattle.journal_law.specs.Recovery.{home-blocks, Recovery, Broken, recovered, started, calls, after-broken}
+use Rattle.journal_law.specs.Recovery.{Recovery, Broken, recovered, started, calls, after-broken}
 use Rattle.journal_law.specs.Cache.{Begun, Phase, slot, slots-flush, head, head-flush, home, homes-flush, empty, empty-flush, Group, Live, Call, begin, finish, withdraw, read, seal, step, restart, Answer, accepted, shown, refused, find, decided, seal-refusal, sealed, outcome-in, next-phase, restarted-phase, opened}
 use Rattle.journal_law.specs.Ledger.{Sealing, Under-way, Ledger, opening-ledger, note, now-finished, gone-back, moved, committed-by, in-phase-now, laid, by-mark, write-of}
 use Rattle.journal_law.specs.Laws.{Shows, Shows-last, Safe}
@@ -30,7 +30,7 @@ pub opening-length : (n k : ℕ) (m : Medium) (t : ℕ → Block) → Keeps (n +
 opening-length n k m t h = length-take-le n (current m) (omega (arith, length-current (n + 9) (Idle n k t) m h))
 
 pub opened-holds : (n k : ℕ) (m : Medium) (t : ℕ → Block) → decode n (encode (empty-head k)) ≡ some (empty-head k) → Keeps (n + 9) (Idle n k t) m →
-    Invariant n (take n (current m)) (opened k m) (opening-ledger k)
+    Invariant n (take n (current m)) (opened n k m) (opening-ledger k)
 opened-holds n k m t blank h = record {
   same-open = refl;
   same-since = refl;
@@ -199,9 +199,6 @@ state-size n opening firm loose last (some g) (some u) c (is-last, number, block
 module _ (n : ℕ) (small : n ≤ 65_536) (opening : List Block) (size : length opening ≡ n) (v : Live) (l : Ledger) (i : Invariant n opening v l) where
   pub live-size : length (v .medium .firm) ≡ n + 9
   live-size = state-size n opening (v .medium .firm) (v .medium .loose) (v .last) (v .group) (l .under-way) (l .committed) (i .state)
-
-  pub home-is : home-blocks (v .medium) ≡ n
-  home-is = omega (arith, live-size)
 
   pub cut-recoverable : (choice : ℕ) → Recoverable n opening (l .under-way) (l .committed) (cut choice (v .medium))
   cut-recoverable choice = cut-leaves n opening (v .medium) (v .last) (v .group) (l .under-way) (l .committed) choice (i .state)

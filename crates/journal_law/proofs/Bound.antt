@@ -101,7 +101,7 @@ good-plan : (effect : Effect) (c : Disk-call) (m : Medium) → good-medium effec
 good-plan effect flush m = refl
 good-plan effect (write w) m = wrote-plan effect w m
 
-module _ (n : ℕ) (opening : List Block) (device : Device) (v : Live) (l : Ledger) (i : Invariant n opening v l) (h : Held v) (sized : size (v .medium) ≡ n + 9)
+module _ (n : ℕ) (opening : List Block) (device : Device) (v : Live) (l : Ledger) (i : Invariant n opening v l) (h : Held n v) (sized : size (v .medium) ≡ n + 9)
     (k bound done : ℕ) (d : Due-in k bound done v) where
   step-due : Due-in k bound (suc done) (outcome-in n device v step .live)
   step-due = go (v .group) (l .under-way) refl (i .state)

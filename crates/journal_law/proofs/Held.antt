@@ -35,7 +35,8 @@ Whole w = length (w .bytes) ≡ 512
 abbrev Whole-begun : Begun → Type 0
 Whole-begun o = Whole (o .write)
 
-pub record Held (v : Live) : Type 0 where
+pub record Held (n : ℕ) (v : Live) : Type 0 where
+  pub homed : v .home-count ≡ n
   pub opens : All Whole-begun (v .open-writes)
   pub batch : All Whole (v .collected)
   pub grouped : All Whole (group-writes (v .group))
@@ -59,11 +60,11 @@ length-without ticket (x ∷ os) o e = go (eqb (x .mark) ticket) e (length-witho
     go true f r = refl
     go false f r = ap suc (r f)
 
-module _ (n : ℕ) (device : Device) (v : Live) (h : Held v) where
-  begin-held : (place : ℕ) (bytes : Block) → Held (decided (begin-refusal n v place bytes) (begun v place bytes) v .live)
-  begin-held place bytes = decided-both (λ (o : Outcome). Held (o .live)) (begin-refusal n v place bytes) (begun v place bytes) v accept (λ _. h)
+module _ (n : ℕ) (device : Device) (v : Live) (h : Held n v) where
+  begin-held : (place : ℕ) (bytes : Block) → Held n (decided (begin-refusal n v place bytes) (begun v place bytes) v .live)
+  begin-held place bytes = decided-both (λ (o : Outcome). Held n (o .live)) (begin-refusal n v place bytes) (begun v place bytes) v accept (λ _. h)
     where
-      accept : begin-refusal n v place bytes ≡ none → Held (begun v place bytes .live)
+      accept : begin-refusal n v place bytes ≡ none → Held n (begun v place bytes .live)
       accept e =
           let e₁ = passed-test (not (eqb (length bytes) 512)) _ _ e in
           let e₂ = passed-test (leb n place) _ _ (e₁ .1) in
@@ -72,6 +73,7 @@ module _ (n : ℕ) (device : Device) (v : Live) (h : Held v) where
           let e₅ = passed-test (ltb 1_000_000 (v .counter + length (v .open-writes) + 2)) _ _ (e₄ .1) in
           let new : Begun = record { mark = suc (v .counter); write = record { place = place; bytes = bytes } } in
           record {
+            homed = h .homed;
             opens = All-push Whole-begun (v .open-writes) new (h .opens) (eqb-true (length bytes) 512 (not-false (eqb (length bytes) 512) (e₁ .0)));
             batch = h .batch;
             grouped = h .grouped;
@@ -79,9 +81,10 @@ module _ (n : ℕ) (device : Device) (v : Live) (h : Held v) where
             number = h .number;
           }
 
-  finish-held : (ticket : ℕ) (o : Option Begun) → find ticket (v .open-writes) ≡ o → Held (finished v ticket o .live)
+  finish-held : (ticket : ℕ) (o : Option Begun) → find ticket (v .open-writes) ≡ o → Held n (finished v ticket o .live)
   finish-held ticket none e = h
   finish-held ticket (some o) e = record {
+    homed = h .homed;
     opens = all-without Whole-begun ticket (v .open-writes) (h .opens);
     batch = all-collect Whole (o .write) (v .collected) (find-in Whole-begun ticket (v .open-writes) o e (h .opens)) (h .batch);
     grouped = h .grouped;
@@ -89,9 +92,10 @@ module _ (n : ℕ) (device : Device) (v : Live) (h : Held v) where
     number = h .number;
   }
 
-  withdraw-held : (ticket : ℕ) (o : Option Begun) → find ticket (v .open-writes) ≡ o → Held (withdrawn v ticket o .live)
+  withdraw-held : (ticket : ℕ) (o : Option Begun) → find ticket (v .open-writes) ≡ o → Held n (withdrawn v ticket o .live)
   withdraw-held ticket none e = h
   withdraw-held ticket (some o) e = record {
+    homed = h .homed;
     opens = all-without Whole-begun ticket (v .open-writes) (h .opens);
     batch = h .batch;
     grouped = h .grouped;
@@ -99,21 +103,21 @@ module _ (n : ℕ) (device : Device) (v : Live) (h : Held v) where
     number = h .number;
   }
 
-  read-held : (place room : ℕ) (b : Option Block) → Held (read-shown device v place room b .live)
+  read-held : (place room : ℕ) (b : Option Block) → Held n (read-shown device v place room b .live)
   read-held place room (some b) = h
-  read-held place room none = record { opens = h .opens; batch = h .batch; grouped = h .grouped; marks = h .marks; number = h .number }
+  read-held place room none = record { homed = h .homed; opens = h .opens; batch = h .batch; grouped = h .grouped; marks = h .marks; number = h .number }
 
-  seal-held : Held (decided (seal-refusal v) (sealed v) v .live)
-  seal-held = decided-both (λ (o : Outcome). Held (o .live)) (seal-refusal v) (sealed v) v accept (λ _. h)
+  seal-held : Held n (decided (seal-refusal v) (sealed v) v .live)
+  seal-held = decided-both (λ (o : Outcome). Held n (o .live)) (seal-refusal v) (sealed v) v accept (λ _. h)
     where
-      accept : seal-refusal v ≡ none → Held (sealed v .live)
+      accept : seal-refusal v ≡ none → Held n (sealed v .live)
       accept e =
           let e₁ = passed-test (is-some (v .group)) _ _ e in
           let e₂ = passed-test (eqb (length (v .collected)) 0) _ _ (e₁ .1) in
           let e₃ = passed-test (leb 4_294_967_295 (v .last)) _ _ (e₂ .1) in
-          record { opens = h .opens; batch = tt; grouped = h .batch; marks = h .marks; number = omega (arith, leb-false 4_294_967_295 (v .last) (e₃ .0)) }
+          record { homed = h .homed; opens = h .opens; batch = tt; grouped = h .batch; marks = h .marks; number = omega (arith, leb-false 4_294_967_295 (v .last) (e₃ .0)) }
 
-  step-held : (g : Option Group) → v .group ≡ g → Held (stepped n device v g .live)
+  step-held : (g : Option Group) → v .group ≡ g → Held n (stepped n device v g .live)
   step-held none e = h
   step-held (some g) e = by-fate (call-fate (v .medium) (phase-call n g (g .phase)))
     where
@@ -124,25 +128,25 @@ module _ (n : ℕ) (device : Device) (v : Live) (h : Held v) where
       moved none = tt
       moved (some p) = same
 
-      by-fate : (f : Fate) → Held (step-met device v g (phase-call n g (g .phase)) f .live)
-      by-fate served = record { opens = h .opens; batch = h .batch; grouped = moved (next-phase (length (g .writes)) (g .phase)); marks = h .marks; number = h .number }
-      by-fate failed = record { opens = h .opens; batch = h .batch; grouped = same; marks = h .marks; number = h .number }
-      by-fate wrong-length = record { opens = h .opens; batch = h .batch; grouped = same; marks = h .marks; number = h .number }
-      by-fate wrong-place = record { opens = h .opens; batch = h .batch; grouped = same; marks = h .marks; number = h .number }
+      by-fate : (f : Fate) → Held n (step-met device v g (phase-call n g (g .phase)) f .live)
+      by-fate served = record { homed = h .homed; opens = h .opens; batch = h .batch; grouped = moved (next-phase (length (g .writes)) (g .phase)); marks = h .marks; number = h .number }
+      by-fate failed = record { homed = h .homed; opens = h .opens; batch = h .batch; grouped = same; marks = h .marks; number = h .number }
+      by-fate wrong-length = record { homed = h .homed; opens = h .opens; batch = h .batch; grouped = same; marks = h .marks; number = h .number }
+      by-fate wrong-place = record { homed = h .homed; opens = h .opens; batch = h .batch; grouped = same; marks = h .marks; number = h .number }
 
   restart-grouped : (g : Option Group) → All Whole (group-writes g) → All Whole (group-writes (group-restarted g))
   restart-grouped none a = tt
   restart-grouped (some g) a = a
 
-  pub call-held : (call : Call) → Held (outcome-in n device v call .live)
+  pub call-held : (call : Call) → Held n (outcome-in n device v call .live)
   call-held (begin place bytes) = begin-held place bytes
   call-held (finish ticket) = finish-held ticket (find ticket (v .open-writes)) refl
   call-held (withdraw ticket) = withdraw-held ticket (find ticket (v .open-writes)) refl
-  call-held (read place room) = decided-both (λ (o : Outcome). Held (o .live)) (read-refusal n place room)
+  call-held (read place room) = decided-both (λ (o : Outcome). Held n (o .live)) (read-refusal n place room)
       (read-shown device v place room (cached place (v .collected ++ group-writes (v .group)))) v (λ _. read-held place room (cached place (v .collected ++ group-writes (v .group)))) (λ _. h)
   call-held seal = seal-held
   call-held step = step-held (v .group) refl
-  call-held (restart choice) = record { opens = h .opens; batch = h .batch; grouped = restart-grouped (v .group) (h .grouped); marks = h .marks; number = h .number }
+  call-held (restart choice) = record { homed = h .homed; opens = h .opens; batch = h .batch; grouped = restart-grouped (v .group) (h .grouped); marks = h .marks; number = h .number }
 
 -- ---- what a disk call meets
 
@@ -214,7 +218,7 @@ own : (b : Bool) (e : CacheError) (rest : Option CacheError) (o : Outcome) (v : 
 own true e rest o v s f = s
 own false e rest o v s f = f
 
-module _ (n : ℕ) (opening : List Block) (device : Device) (v : Live) (l : Ledger) (i : Invariant n opening v l) (h : Held v) (sized : size (v .medium) ≡ n + 9) where
+module _ (n : ℕ) (opening : List Block) (device : Device) (v : Live) (l : Ledger) (i : Invariant n opening v l) (h : Held n v) (sized : size (v .medium) ≡ n + 9) where
   read-seven : (place room : ℕ) → room ≡ 512 → place < n → (b : Option Block) → Fault-only (read-shown device v place room b .answer)
   read-seven place room e l (some b) = tt
   read-seven place room e l none = subst (λ f. Fault-only (read-disk device v place f .answer)) (sym (fate-is (v .medium) place room e (omega (arith, l, sized)))) (go (due (v .medium .plan)))

@@ -18,7 +18,7 @@ use Rattle.errors.specs.Errors.{volume-number}
 use Rattle.head.specs.Head.{encode, decode, empty-head}
 use Rattle.head.proofs.RoundTrip.{decode-sound}
 use Rattle.journal_law.specs.Device.{Device, bads}
-use Rattle.journal_law.specs.Recovery.{home-blocks, Stage, first-flush, read-head, read-slot, write-home, home-flush, write-empty, last-flush, recovered, no-head, failed, Broken, started, calls, after-broken, ended}
+use Rattle.journal_law.specs.Recovery.{Stage, first-flush, read-head, read-slot, write-home, home-flush, write-empty, last-flush, recovered, no-head, failed, Broken, started, calls, after-broken, ended}
 use Rattle.journal_law.specs.Cache.{Live, Group, Call, read, Answer, refused, shown, Event, outcome, outcome-in, opened, group-writes, is-some}
 use Rattle.journal_law.specs.Ledger.{Under-way, Ledger, Sealing, opening-ledger, note, replay}
 use Rattle.journal_law.specs.Laws.{Just-recovered, event-of, Ran, no-call, one-more, Fails-at, between, within, Safe, Succeeds, calls-left, step-count, steps, Is-restart, No-restart, Bounds, Laws, Runs-on, Lawful-runs}
@@ -29,7 +29,7 @@ use Rattle.journal_law.proofs.Start.{fits-parts, found}
 use Rattle.journal_law.proofs.Tables.{some-same}
 use Rattle.journal_law.proofs.Invariant.{content, State, Invariant}
 use Rattle.journal_law.proofs.Calls.{call-holds}
-use Rattle.journal_law.proofs.Atomic.{opening-length, opened-holds, Recoverable, live-size, home-is, cut-recoverable, within-recoverable, recoverable-safe}
+use Rattle.journal_law.proofs.Atomic.{opening-length, opened-holds, Recoverable, live-size, cut-recoverable, within-recoverable, recoverable-safe}
 use Rattle.journal_law.proofs.Ends.{recovery-ends}
 use Rattle.journal_law.proofs.Held.{Held, call-held, Fault-only, faults-only}
 use Rattle.journal_law.proofs.Bound.{Due-in, counted, counted-is, call-due, same-group, some-left}
@@ -58,7 +58,7 @@ no-restart-push (x ∷ es) e r = let q = no-restart-push es e (r .1) in ((r .0, 
 
 pub record Holding (n : ℕ) (opening : List Block) (v : Live) (l : Ledger) : Type 0 where
   pub invariant : Invariant n opening v l
-  pub held : Held v
+  pub held : Held n v
 
 module _ (n k : ℕ) (m : Medium) (j : Just-recovered n k m) where
   small : n ≤ 65_536
@@ -73,10 +73,11 @@ module _ (n k : ℕ) (m : Medium) (j : Just-recovered n k m) where
   opening-size : length opening ≡ n
   opening-size = opening-length n k m (start .1 .0) (start .1 .1)
 
-  pub holding : {es : List Event} {v : Live} → Ran (opened k m) es v → Holding n opening v (replay (opening-ledger k) es)
+  pub holding : {es : List Event} {v : Live} → Ran (opened n k m) es v → Holding n opening v (replay (opening-ledger k) es)
   holding no-call = record {
     invariant = opened-holds n k m (start .1 .0) (start .0) (start .1 .1);
     held = record {
+      homed = refl;
       opens = tt;
       batch = tt;
       grouped = tt;
@@ -87,20 +88,20 @@ module _ (n k : ℕ) (m : Medium) (j : Just-recovered n k m) where
   holding (one-more {es} {w} r device call) =
       let h = holding r in
       let l : Ledger = replay (opening-ledger k) es in
-      let is : home-blocks (w .medium) ≡ n = home-is n small opening opening-size w l (h .invariant) in
+      let is : w .home-count ≡ n = h .held .homed in
       subst (λ x. Holding n opening (outcome device w call .live) x) (sym (replay-push (opening-ledger k) es (event-of device w call)))
       (subst (λ x. Holding n opening (outcome-in x device w call .live) (note l call (outcome-in x device w call .answer))) (sym is)
       (record { invariant = call-holds n small opening opening-size device w l call (h .invariant); held = call-held n device w (h .held) call }))
 
-  module _ {es : List Event} {v : Live} (r : Ran (opened k m) es v) where
+  module _ {es : List Event} {v : Live} (r : Ran (opened n k m) es v) where
     l : Ledger
     l = replay (opening-ledger k) es
 
     inv : Invariant n opening v (replay (opening-ledger k) es)
     inv = holding r .invariant
 
-    is-home : home-blocks (v .medium) ≡ n
-    is-home = home-is n small opening opening-size v (replay (opening-ledger k) es) inv
+    is-home : v .home-count ≡ n
+    is-home = holding r .held .homed
 
     pub ran-size : size (v .medium) ≡ n + 9
     ran-size = live-size n small opening opening-size v (replay (opening-ledger k) es) inv
@@ -166,7 +167,7 @@ module _ (n k : ℕ) (m : Medium) (j : Just-recovered n k m) where
         let ran = ran-append r s in
         let h = holding ran in
         let lx : Ledger = replay (opening-ledger k) (es ++ ds) in
-        let is : home-blocks (x .medium) ≡ n = home-is n small opening opening-size x lx (h .invariant) in
+        let is : x .home-count ≡ n = h .held .homed in
         let sized : size (x .medium) ≡ n + 9 = live-size n small opening opening-size x lx (h .invariant) in
         let bound : ℕ = calls-left (u .blocks) (u .phase) + bads (v .medium .plan) in
         subst (λ d. Due-in (u .sealing .number) bound d (outcome device x call .live)) (counted-is call (steps ds) ∙ sym (steps-push ds (event-of device x call)))
@@ -215,6 +216,6 @@ lawful-runs n k m es v j r = laws n k m j r
 -- a call whose answer and cache are those of the model
 pub runs-on : (device : Device) (call : Call) {v w : Live} {a : Answer} → a ≡ outcome device v call .answer → w ≡ outcome device v call .live → Runs-on call v a w
 runs-on device call {v} {w} {a} answers leaves n k m es j r =
-    let next : Ran (opened k m) (es ++ record { call = call; answer = a } ∷ []) w =
-    subst₂ (λ (x : Answer) (y : Live). Ran (opened k m) (es ++ record { call = call; answer = x } ∷ []) y) (sym answers) (sym leaves) (one-more r device call) in
+    let next : Ran (opened n k m) (es ++ record { call = call; answer = a } ∷ []) w =
+    subst₂ (λ (x : Answer) (y : Live). Ran (opened n k m) (es ++ record { call = call; answer = x } ∷ []) y) (sym answers) (sym leaves) (one-more r device call) in
     (next, lawful-runs n k m (es ++ record { call = call; answer = a } ∷ []) w j next)

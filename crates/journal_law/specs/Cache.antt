@@ -18,7 +18,7 @@ use Rattle.errors.specs.declared.CacheError.the-variants as error
 use Rattle.errors.specs.Errors.{during-call}
 use Rattle.head.specs.Head.{Head, encode, empty-head, holds}
 use Rattle.journal_law.specs.Device.{Device}
-use Rattle.journal_law.specs.Recovery.{home-blocks, slot-place, head-write}
+use Rattle.journal_law.specs.Recovery.{slot-place, head-write}
 
 -- a write that has begun: its begin mark is its ticket
 pub record Begun : Type 0 where
@@ -39,6 +39,8 @@ pub record Group : Type 0 where
 
 pub record Live : Type 0 where
   pub medium : Medium
+  -- the home blocks lie below this place, the head at it
+  pub home-count : ℕ
   pub counter : ℕ
   -- in the order of their begins
   pub open-writes : List Begun
@@ -48,9 +50,9 @@ pub record Live : Type 0 where
   -- the number of the last sealing, or the one recovered
   pub last : ℕ
 
--- a cache just recovered
-abbrev pub opened : ℕ → Medium → Live
-opened k m = record { medium = m; counter = 0; open-writes = []; collected = []; group = none; last = k }
+-- a cache of n home blocks, just recovered with number k
+abbrev pub opened : ℕ → ℕ → Medium → Live
+opened n k m = record { medium = m; home-count = n; counter = 0; open-writes = []; collected = []; group = none; last = k }
 
 pub data Call : Type 0 where
   begin : ℕ → Block → Call
@@ -97,6 +99,7 @@ handed call good (Err e) = refused (during-call call e)
 abbrev pub with-table : Live → ℕ → List Begun → List Write → Live
 with-table v counter open-writes collected = record {
   medium = v .medium;
+  home-count = v .home-count;
   counter = counter;
   open-writes = open-writes;
   collected = collected;
@@ -107,6 +110,7 @@ with-table v counter open-writes collected = record {
 abbrev pub with-medium : Live → Medium → Live
 with-medium v m = record {
   medium = m;
+  home-count = v .home-count;
   counter = v .counter;
   open-writes = v .open-writes;
   collected = v .collected;
@@ -117,6 +121,7 @@ with-medium v m = record {
 abbrev pub with-group : Live → Medium → Option Group → Live
 with-group v m g = record {
   medium = m;
+  home-count = v .home-count;
   counter = v .counter;
   open-writes = v .open-writes;
   collected = v .collected;
@@ -222,6 +227,7 @@ sealed v = record {
   answer = accepted (suc (v .last));
   live = record {
     medium = v .medium;
+    home-count = v .home-count;
     counter = v .counter;
     open-writes = v .open-writes;
     collected = [];
@@ -345,7 +351,7 @@ outcome-in n device v (restart choice) = record {
 
 -- each call, on the volume that the cache has
 abbrev pub outcome : Device → Live → Call → Outcome
-outcome device v call = outcome-in (home-blocks (v .medium)) device v call
+outcome device v call = outcome-in (v .home-count) device v call
 
 -- a call as its caller sees it
 pub record Event : Type 0 where

@@ -10,7 +10,7 @@ use Rattle.errors.specs.declared.CacheError.the-variants as error
 use Rattle.head.specs.Head.{Head, encode, decode, empty-head}
 use Rattle.journal_law.specs.Device.{Device}
 use Rattle.journal_law.specs.Recovery.{Recovery, recovered, started, calls}
-use Rattle.journal_law.specs.Cache.{Begun, Live, Call, finish, seal, step, empty-flush, Answer, accepted, refused, begin, outcome, outcome-in, opened}
+use Rattle.journal_law.specs.Cache.{Begun, Live, Call, finish, seal, step, empty-flush, Answer, accepted, refused, begin, outcome, opened}
 
 abbrev pub two-places : Head
 two-places = record { number = 258; places = 3 ∷ 260 ∷ [] }
@@ -23,6 +23,7 @@ joining = record { effect = join; tries = 1 }
 abbrev pub counted : ℕ → List Begun → Live
 counted counter open-writes = record {
   medium = record { firm = []; loose = []; plan = [] };
+  home-count = 10;
   counter = counter;
   open-writes = open-writes;
   collected = [];
@@ -31,7 +32,7 @@ counted counter open-writes = record {
 }
 
 abbrev pub begin-answer : Live → Answer
-begin-answer v = outcome-in 10 joining v (begin 5 (replicate 512 0)) .answer
+begin-answer v = outcome joining v (begin 5 (replicate 512 0)) .answer
 
 pub record Known-journal : Type 0 where
   -- the head's bytes
@@ -59,7 +60,7 @@ formatted-volume = record { firm = old-block ∷ encode (empty-head 0) ∷ repli
 
 abbrev pub after : Live → List Call → Live
 after v [] = v
-after v (c ∷ cs) = after (outcome-in 1 joining v c .live) cs
+after v (c ∷ cs) = after (outcome joining v c .live) cs
 
 -- a write begun, finished and sealed, and then so many steps
 abbrev pub steps-of : ℕ → List Call
@@ -67,7 +68,7 @@ steps-of zero = []
 steps-of (suc i) = step ∷ steps-of i
 
 abbrev pub sealed-and : ℕ → Live
-sealed-and i = after (opened 0 formatted-volume) (begin 0 new-block ∷ finish 1 ∷ seal ∷ steps-of i)
+sealed-and i = after (opened 1 0 formatted-volume) (begin 0 new-block ∷ finish 1 ∷ seal ∷ steps-of i)
 
 abbrev pub recovered-from : ℕ → ℕ → Recovery
 recovered-from choice i = calls 1 (replicate 7 join) (started (cut choice (sealed-and i .medium)))

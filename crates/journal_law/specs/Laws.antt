@@ -147,12 +147,12 @@ pub record Laws (n k : ℕ) (m : Medium) (es : List Event) (v : Live) : Type 0 w
 -- to w, and the laws hold after it.
 abbrev pub Runs-on : Call → Live → Answer → Live → Type 0
 Runs-on call v a w =
-    (n k : ℕ) (m : Medium) (es : List Event) → Just-recovered n k m → Ran (opened k m) es v →
-    Ran (opened k m) (es ++ record { call = call; answer = a } ∷ []) w × Laws n k m (es ++ record { call = call; answer = a } ∷ []) w
+    (n k : ℕ) (m : Medium) (es : List Event) → Just-recovered n k m → Ran (opened n k m) es v →
+    Ran (opened n k m) (es ++ record { call = call; answer = a } ∷ []) w × Laws n k m (es ++ record { call = call; answer = a } ∷ []) w
 
 -- every run of the cache obeys the laws
 abbrev pub Lawful-runs : Type 0
-Lawful-runs = (n k : ℕ) (m : Medium) (es : List Event) (v : Live) → Just-recovered n k m → Ran (opened k m) es v → Laws n k m es v
+Lawful-runs = (n k : ℕ) (m : Medium) (es : List Event) (v : Live) → Just-recovered n k m → Ran (opened n k m) es v → Laws n k m es v
 
 -- ---- recovery after a power failure
 
@@ -160,7 +160,7 @@ Lawful-runs = (n k : ℕ) (m : Medium) (es : List Event) (v : Live) → Just-rec
 pub record Left (n k : ℕ) (m : Medium) (es : List Event) (m′ : Medium) : Type 0 where
   pub start : Just-recovered n k m
   pub live : Live
-  pub ran : Ran (opened k m) es live
+  pub ran : Ran (opened n k m) es live
   pub at-failure : Medium
   pub fails : Fails-at live at-failure
   pub choice : ℕ
