@@ -20,11 +20,7 @@ use Rattle.head.specs.Head.{holds}
 use Rattle.journal_law.specs.Cache.{Begun, find, without, collect, cached}
 use Rattle.batch.specs.declared.entry.Entry.{Entry}
 use Rattle.batch.specs.declared.entry.Query.the-variants as query
-use Rattle.batch.specs.Rows.{write-in, begun-in, place-in, test, first-from, outside}
-
--- what an element past the end reads as
-abbrev pub no-entry : Entry
-no-entry = record { mark = 0; place = 0; bytes = [] }
+use Rattle.batch.specs.Rows.{no-entry, write-in, begun-in, place-in, test, first-from, outside}
 
 -- ---- the search
 

@@ -23,6 +23,10 @@ begun-in e = record { mark = e .mark; write = write-in e }
 abbrev pub place-in : Entry → ℕ
 place-in e = e .place
 
+-- what a row past the end reads as
+abbrev pub no-entry : Entry
+no-entry = record { mark = 0; place = 0; bytes = [] }
+
 abbrev pub entries : Batch → List Entry
 entries b = take (b .count) (b .rows)
 

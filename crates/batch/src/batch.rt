@@ -6,7 +6,7 @@ ghost use lib.ListN.{length, getD, take};
 ghost use Rattle.std.specs.Options.{mapped};
 ghost use Rattle.head.specs.Head.{holds as among};
 ghost use Rattle.journal_law.specs.Cache.{find as found-open, without, collect as collected, cached};
-ghost use Rattle.batch.specs.Rows.{entries, begun-list, write-list, place-list, begun-in, write-in, test, first-from, Within, outside as places-outside};
+ghost use Rattle.batch.specs.Rows.{no-entry, entries, begun-list, write-list, place-list, begun-in, write-in, test, first-from, Within, outside as places-outside};
 ghost use Rattle.batch.specs.Options.{maybe};
 use crate::entry::Entry;
 use crate::entry::Query;
@@ -52,6 +52,14 @@ impl Batch {
         ensures { λ r. ⌜ r ≡ among place (place-list (now (self .entry))) ⌝ }
     {
         self.position(Query::Place(place)).is_some()
+    }
+
+    // The i-th write.
+    pub fn entry(&self, i: usize) -> Entry
+        requires { ⌜ i < now self .count ⌝ }
+        ensures { λ r. ⌜ r ≡ getD (entries (now (self .entry))) i no-entry ⌝ }
+    {
+        self.rows[i]
     }
 
     // The bytes of the write at the place.

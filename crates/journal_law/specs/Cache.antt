@@ -353,6 +353,19 @@ outcome-in n device v (restart choice) = record {
 abbrev pub outcome : Device → Live → Call → Outcome
 outcome device v call = outcome-in (v .home-count) device v call
 
+-- the write that a disk call asks for; a flush asks for none
+abbrev pub asked-write : Disk-call → Write
+asked-write (write w) = w
+asked-write flush = record { place = 0; bytes = [] }
+
+-- the write that the cache's next step asks for
+abbrev pub group-asks : ℕ → Option Group → Write
+group-asks n none = asked-write flush
+group-asks n (some g) = asked-write (phase-call n g (g .phase))
+
+abbrev pub step-asks : Live → Write
+step-asks v = group-asks (v .home-count) (v .group)
+
 -- a call as its caller sees it
 pub record Event : Type 0 where
   pub call : Call

@@ -6,8 +6,8 @@ use Rattle.std.proofs.shelf.Lists.{getD-take}
 use Rattle.batch.specs.declared.entry.Entry.{Entry}
 use mathlib.Core.Option.{some}
 use Rattle.batch.specs.Options.{maybe}
-use Rattle.batch.specs.Rows.{entries}
-use Rattle.batch.proofs.Rowing.{no-entry, cached-none, cached-some}
+use Rattle.batch.specs.Rows.{no-entry, entries}
+use Rattle.batch.proofs.Rowing.{cached-none, cached-some}
 use Rattle.batch.proofs.rows.Batch.bytes_at.Needs as need
 
 pub returns-in-Break-row : need.returns-in-Break-row

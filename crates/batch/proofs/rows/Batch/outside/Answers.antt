@@ -6,8 +6,8 @@ use Prim.Native.Nat.{ℕ, _+_}
 use lib.ListN.{length, getD, drop, take}
 use Rattle.std.proofs.shelf.Lists.{length-take-le, length-map, getD-map, getD-take}
 use Rattle.head.specs.Head.{holds}
-use Rattle.batch.specs.Rows.{entries, place-in, place-list, outside}
-use Rattle.batch.proofs.Rowing.{no-entry, outside-more, outside-end}
+use Rattle.batch.specs.Rows.{no-entry, entries, place-in, place-list, outside}
+use Rattle.batch.proofs.Rowing.{outside-more, outside-end}
 use Rattle.batch.proofs.rows.Batch.outside.Needs as need
 use Rattle.batch.proofs.rows.Batch.outside.Needs.{then-not-holds, else-not-holds}
 

@@ -3,8 +3,7 @@ use mathlib.Core.List.{_∷_, [], _++_, map}
 use native.Mathlib.Omega.{arith}
 use lib.ListN.{length, take, getD}
 use Rattle.std.proofs.shelf.Lists.{length-set, take-more, take-more-set, map-push}
-use Rattle.batch.specs.Rows.{place-in}
-use Rattle.batch.proofs.Rowing.{no-entry}
+use Rattle.batch.specs.Rows.{no-entry, place-in}
 use Rattle.batch.proofs.rows.Batch.places.Needs as need
 
 pub loop-i-again : need.loop-i-again

@@ -3,8 +3,8 @@ use native.Mathlib.Omega.{arith}
 use Prim.Native.Nat.{_<_, _≤_}
 use lib.ListN.{length, getD}
 use Rattle.std.proofs.shelf.Lists.{length-take-le, getD-take}
-use Rattle.batch.specs.Rows.{entries, test}
-use Rattle.batch.proofs.Rowing.{no-entry, first-here, first-end}
+use Rattle.batch.specs.Rows.{no-entry, entries, test}
+use Rattle.batch.proofs.Rowing.{first-here, first-end}
 use Rattle.batch.proofs.rows.Batch.position.Needs as need
 
 pub returns-then-passes : need.returns-then-passes

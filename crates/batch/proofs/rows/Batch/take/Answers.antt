@@ -8,8 +8,8 @@ use Rattle.std.specs.Options.{mapped}
 use Rattle.std.proofs.shelf.Lists.{getD-take, length-take-le}
 use Rattle.batch.specs.declared.entry.Entry.{Entry}
 use Rattle.batch.specs.Options.{maybe}
-use Rattle.batch.specs.Rows.{entries, begun-in, begun-list}
-use Rattle.batch.proofs.Rowing.{no-entry, find-none, find-some, without-none, without-some}
+use Rattle.batch.specs.Rows.{no-entry, entries, begun-in, begun-list}
+use Rattle.batch.proofs.Rowing.{find-none, find-some, without-none, without-some}
 use Rattle.batch.proofs.rows.Batch.take.Needs as need
 
 pub returns-in-Break-row : need.returns-in-Break-row
