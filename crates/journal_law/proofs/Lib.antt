@@ -1,0 +1,17 @@
+pub mod Media
+pub mod Forms
+pub mod Restore
+pub mod Start
+pub mod Tables
+pub mod Invariant
+pub mod Phases
+pub mod Steps
+pub mod Entries
+pub mod Calls
+pub mod Atomic
+pub mod Ends
+pub mod Held
+pub mod Bound
+pub mod Coherence
+pub mod Running
+pub mod Worked

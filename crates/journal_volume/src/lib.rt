@@ -1,0 +1,3 @@
+// A journal volume over any bench disk: format and recovery.
+pub mod cold;
+mod recovery;
