@@ -1,2 +1,5 @@
 pub mod Openings
 pub mod Telling
+pub mod Repeating
+pub mod Formatting
+pub mod Recovering

@@ -1,1 +1,3 @@
 pub mod InOrder
+pub mod InJournal
+pub mod Histories
