@@ -3,3 +3,4 @@ pub mod Telling
 pub mod Repeating
 pub mod Formatting
 pub mod Recovering
+pub mod Usable

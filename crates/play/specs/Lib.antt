@@ -1,3 +1,4 @@
 pub mod InOrder
 pub mod InJournal
 pub mod Histories
+pub mod Plays

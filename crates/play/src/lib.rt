@@ -1,3 +1,4 @@
 // Plays a trace and tells what each call answered.
+mod blank;
 mod in_order;
 mod volumes;
