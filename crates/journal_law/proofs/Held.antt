@@ -51,7 +51,7 @@ all-collect P w (x ∷ xs) p a = go (eqb (x .place) (w .place)) (all-collect P w
     go true r = (p, a .1)
     go false r = (a .0, r)
 
-length-without : (ticket : ℕ) (os : List Begun) (o : Begun) → find ticket os ≡ some o → suc (length (without ticket os)) ≡ length os
+pub length-without : (ticket : ℕ) (os : List Begun) (o : Begun) → find ticket os ≡ some o → suc (length (without ticket os)) ≡ length os
 length-without ticket [] o e = absurd (none-some o e)
 length-without ticket (x ∷ os) o e = go (eqb (x .mark) ticket) e (length-without ticket os o)
   where

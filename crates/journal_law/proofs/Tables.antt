@@ -192,14 +192,14 @@ different-mono (suc n) xs ys f = go (holds n xs) (holds n ys) (f n) (different-m
     go false true g r = omega arith
     go false false g r = omega arith
 
-different-past : (n x : ℕ) (xs : List ℕ) → n ≤ x → different n (x ∷ xs) ≡ different n xs
+pub different-past : (n x : ℕ) (xs : List ℕ) → n ≤ x → different n (x ∷ xs) ≡ different n xs
 different-past zero x xs l = refl
 different-past (suc n) x xs l =
     let e : different n (x ∷ xs) ≡ different n xs = different-past n x xs (omega arith) in
     ap (λ b. cond (cond b true (holds n xs)) 1 0 + different n (x ∷ xs)) (ne-eqb x n (λ f. absurd (omega arith)))
     ∙ ap (λ z. cond (holds n xs) 1 0 + z) e
 
-different-fresh : (n x : ℕ) (xs : List ℕ) → x < n → holds x xs ≡ false → different n (x ∷ xs) ≡ suc (different n xs)
+pub different-fresh : (n x : ℕ) (xs : List ℕ) → x < n → holds x xs ≡ false → different n (x ∷ xs) ≡ suc (different n xs)
 different-fresh zero x xs l h = absurd (omega arith)
 different-fresh (suc n) x xs l h = go (eqb x n) refl (λ lt. different-fresh n x xs lt h)
   where
