@@ -1,6 +1,6 @@
 ghost use mathlib.Core.Path.{_≡_};
 ghost use mathlib.Core.Bool.{true};
-ghost use Rattle.group.specs.Phases.{in-turn, wrote-to, flushed-to, advanced};
+ghost use Rattle.group.specs.Phases.{progress-number, in-turn, wrote-to, flushed-to, advanced};
 use crate::phase::Phase;
 use errors::CacheError;
 
@@ -10,6 +10,18 @@ pub enum Progress {
     Idle,
     Written,
     Flushed,
+}
+
+impl Progress {
+    pub fn number(self) -> u8
+        ensures { λ r. ⌜ r ≡ progress-number self ⌝ }
+    {
+        match self {
+            Progress::Idle => 0,
+            Progress::Written => 1,
+            Progress::Flushed => 2,
+        }
+    }
 }
 
 // Where the group stands after a good call; no phase is left when it leaves the cache.

@@ -4,3 +4,4 @@ pub mod Repeating
 pub mod Formatting
 pub mod Recovering
 pub mod Usable
+pub mod Keeping

@@ -20,7 +20,7 @@ use Rattle.trace.specs.Calls.{cut-choice}
 use Rattle.listing.specs.declared.line.Line.{Line}
 use Rattle.listing.specs.declared.play_error.PlayError.{PlayError}
 use Rattle.listing.specs.declared.play_error.PlayError.the-variants.{Cache as Refused}
-use Rattle.listing.specs.Lines.{told}
+use Rattle.play.specs.Telling.{lines-by}
 
 -- ---- format and recovery, each repeated until accepted
 
@@ -135,10 +135,15 @@ cut-by (Some choice) p = after-cut (recovered-until (cut choice (p .live .medium
 abbrev pub played : Device → TraceCall → Live → Played
 played device call v = cut-by (cut-choice call) (called device call v)
 
+abbrev pub answer-in : Device → TraceCall → Live → Result ℕ PlayError
+answer-in device call v = played device call v .answer
+
+abbrev pub left-in : Device → TraceCall → Live → Live
+left-in device call v = played device call v .live
+
 -- a line for each call
 abbrev pub lines-from : Device → Live → List TraceCall → List Line
-lines-from device v [] = []
-lines-from device v (call ∷ calls) = told call (played device call v .answer) ∷ lines-from device (played device call v .live) calls
+lines-from device v calls = lines-by (answer-in device) (left-in device) v calls
 
 -- the lines of a whole play over a disk that is formatted and recovered first
 abbrev pub journal-lines : ℕ → Medium → List TraceCall → List Line

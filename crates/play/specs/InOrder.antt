@@ -18,7 +18,7 @@ use Rattle.trace.specs.Calls.{cut-choice}
 use Rattle.listing.specs.declared.line.Line.{Line}
 use Rattle.listing.specs.declared.play_error.PlayError.{PlayError}
 use Rattle.listing.specs.declared.play_error.PlayError.the-variants.{SealInOrder, Cache as Refused}
-use Rattle.listing.specs.Lines.{told}
+use Rattle.play.specs.Telling.{lines-by}
 
 -- the plan once every bad entry before the first good one is taken
 abbrev pub until-good : List Entry → List Entry
@@ -67,11 +67,15 @@ cut-by (Some choice) c = made (opened-until (cut choice (c .medium)))
 abbrev pub played : Precedence → Device → TraceCall → Cache → Played
 played precedes device call c = answered (called precedes device call c .answer) (cut-by (cut-choice call) (called precedes device call c .cache))
 
+abbrev pub answer-in : Precedence → Device → TraceCall → Cache → Result ℕ PlayError
+answer-in precedes device call c = played precedes device call c .answer
+
+abbrev pub left-in : Precedence → Device → TraceCall → Cache → Cache
+left-in precedes device call c = played precedes device call c .cache
+
 -- a line for each call
 abbrev pub lines-from : Precedence → Device → Cache → List TraceCall → List Line
-lines-from precedes device c [] = []
-lines-from precedes device c (call ∷ calls) =
-    told call (played precedes device call c .answer) ∷ lines-from precedes device (played precedes device call c .cache) calls
+lines-from precedes device c calls = lines-by (answer-in precedes device) (left-in precedes device) c calls
 
 -- the lines of a whole play over a disk that is taken up cold
 abbrev pub ordered-lines : Precedence → Device → Medium → List TraceCall → List Line

@@ -1,3 +1,4 @@
+pub mod Telling
 pub mod InOrder
 pub mod InJournal
 pub mod Histories

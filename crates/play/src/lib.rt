@@ -1,4 +1,5 @@
 // Plays a trace and tells what each call answered.
 mod blank;
+mod in_journal;
 mod in_order;
 mod volumes;

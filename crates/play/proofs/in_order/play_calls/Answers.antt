@@ -7,8 +7,9 @@ use Rattle.disk.specs.Medium.{join}
 use Rattle.ordered.specs.Model.{model}
 use Rattle.ordered.specs.Opening.{made}
 use Rattle.ordered_law.specs.Device.{Device}
+use Rattle.trace.specs.Calls.{cut-choice}
 use Rattle.trace.specs.declared.call.TraceCall.the-variants.{Begin}
-use Rattle.play.specs.InOrder.{opened-until, called, cut-by, lines-from}
+use Rattle.play.specs.InOrder.{Played, opened-until, called, cut-by, answer-in, left-in, lines-from}
 use Rattle.play.proofs.Telling.{one-more}
 use Rattle.play.proofs.in_order.play_calls.Needs as need
 use Rattle.play.proofs.in_order.play_calls.Needs.{in-Some, in-None}
@@ -21,21 +22,22 @@ loop-call-again g c =
     let medium = g .D·Disk .medium in
     let precedes = g .P·Precedence .before in
     let device : Device = record { rule = join; tries = g .D·Disk .attempts } in
-    let d = c .answer-to-answer .last .live in
-    let answers = c .answer-to-answer .ensures .outcome ∙ ap (λ o. called (precedes o) device (getD (c .args .calls .now) (c .loop-call .call-index) (Begin 0 0)) (model medium (c .loop-call .live))) (c .loop-call .inv .0) in
-    let ordered = c .answer-to-answer .ensures .order ∙ c .loop-call .inv .0 in
-    let tells = one-more (precedes (c .args .order)) device (c .args .calls .now) (c .loop-call .call-index) (Begin 0 0) (c .loop-call-test .taken) _ (vec-items (c .loop-call .lines)) (vec-items (c .push .last .self)) (model medium (c .loop-call .live)) (model medium d) in
+    let call = getD (c .args .calls .now) (c .loop-call .call-index) (Begin 0 0) in
+    let before = model medium (c .loop-call .live) in
+    let d = model medium (c .answer-to-answer .last .live) in
+    let did = c .answer-to-answer .ensures .outcome ∙ ap (λ o. called (precedes o) device call before) (c .loop-call .inv .0) in
+    let tells = one-more (answer-in (precedes (c .args .order)) device) (left-in (precedes (c .args .order)) device) (c .args .calls .now) (c .loop-call .call-index) (Begin 0 0) (c .loop-call-test .taken) _ (vec-items (c .loop-call .lines)) (vec-items (c .push .last .self)) before in
     elim (c .match-cut-choice .came) [
       | in-Some w ↦ (
         ap (λ v. v .order) (w .live-is) ∙ w .taken-up-live .ensures .order,
-        tells _ _ _ (c .loop-call .inv .1) answers
-            (ap (model medium) (w .live-is) ∙ w .taken-up-live .ensures .after ∙ ap (λ m. made (opened-until m)) (w .cut .ensures .after) ∙ sym (ap (λ o. cut-by o (model medium d)) (sym (w .in-Some .ensures tt))))
+        tells _ _ _ (c .loop-call .inv .1) (ap (λ (p : Played). p .answer) did)
+            (ap (model medium) (w .live-is) ∙ w .taken-up-live .ensures .after ∙ ap (λ m. made (opened-until m)) (w .cut .ensures .after) ∙ ap (λ o. cut-by o d) (w .in-Some .ensures tt) ∙ ap (λ (p : Played). cut-by (cut-choice call) (p .cache)) did)
             (c .new .ensures) (c .in-Continue-push .ensures tt .items),
       )
       | in-None w ↦ (
-        ap (λ v. v .order) (w .live-is) ∙ ordered,
-        tells _ _ _ (c .loop-call .inv .1) answers
-            (ap (model medium) (w .live-is) ∙ sym (ap (λ o. cut-by o (model medium d)) (sym (w .in-None .ensures tt))))
+        ap (λ v. v .order) (w .live-is) ∙ c .answer-to-answer .ensures .order ∙ c .loop-call .inv .0,
+        tells _ _ _ (c .loop-call .inv .1) (ap (λ (p : Played). p .answer) did)
+            (ap (model medium) (w .live-is) ∙ ap (λ o. cut-by o d) (w .in-None .ensures tt) ∙ ap (λ (p : Played). cut-by (cut-choice call) (p .cache)) did)
             (c .new .ensures) (c .in-Continue-push .ensures tt .items),
       )
     ]
