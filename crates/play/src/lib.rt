@@ -2,4 +2,6 @@
 mod blank;
 mod in_journal;
 mod in_order;
+mod on_disk;
+pub mod play;
 mod volumes;
