@@ -54,7 +54,6 @@ module _ (tries : ℕ) (m : Medium) where
   written = put join m (head-write (home-blocks m) (empty-head 0))
 
   by-due : Entry → Formatted
-  unfolding written
   by-due e = by-entry e (format-flush tries written) (record { answer = Err (volume.Disk (fault tries kind.Write (home-blocks m))); medium = passed m })
 
   written-came : Came (format-flush tries written) m (flushed written)
