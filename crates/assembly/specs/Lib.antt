@@ -1,0 +1,4 @@
+pub mod Arguments
+pub mod Keywords
+pub mod Numbers
+pub mod Words
