@@ -1,2 +1,4 @@
 pub mod Digits
+pub mod Lining
 pub mod Splitting
+pub mod Stating

@@ -2,17 +2,16 @@
 use mathlib.Core.Path.{_≡_, refl, sym, ap, subst, _∙_}
 use mathlib.Core.List.{List, [], _∷_}
 use mathlib.Core.Bool.{Bool, true, false, cond, not}
-use Prim.Native.Nat.{ℕ, zero, suc, _+_, _-_, _<_, _≤_}
+use Prim.Native.Nat.{ℕ, suc, _+_, _-_, _<_, _≤_}
 use native.Mathlib.Omega.{arith}
 use lib.ListN.{length, getD, take, drop}
 use mathlib.Core.Logic.{_⊎_, inl, inr}
 use lib.Dec.{eqb}
 use Rattle.std.proofs.shelf.Lists.{at-drop-more, at-drop-all, take-rest}
 use Rattle.std.proofs.shelf.Tests.{both-ways, cases-bool, eqb-true}
-use Rattle.std.specs.declared.option.Option.the-variants.{Some, None}
 use Rattle.assembly.specs.declared.words.Class.{Class}
-use Rattle.assembly.specs.declared.words.Class.the-variants.{LineEnd, Comment, Blank, Dark}
-use Rattle.assembly.specs.Words.{is-blank, holds, first-at, onto, pieces, filled, words, listed}
+use Rattle.assembly.specs.declared.words.Class.the-variants.{Blank, Dark}
+use Rattle.assembly.specs.Words.{is-blank, holds, first-at, onto, pieces, filled, words}
 
 add-cond : (t : Bool) (i n : ℕ) → i + cond t 0 (suc n) ≡ cond t i ((i + 1) + n)
 add-cond true i n = omega arith

@@ -1,6 +1,6 @@
 -- What follows the first word of a line.
 use mathlib.Core.List.{List, [], _∷_}
-use mathlib.Core.Bool.{cond}
+use mathlib.Core.Bool.{Bool, cond}
 use Prim.Native.Nat.{ℕ}
 use lib.Chars.{codes}
 use Rattle.std.specs.Options.{mapped}
@@ -9,11 +9,14 @@ use Rattle.std.specs.declared.option.Option.{Option}
 use Rattle.std.specs.declared.option.Option.the-variants.{Some, None}
 use Rattle.trace.specs.declared.call.TraceCall.{TraceCall}
 use Rattle.trace.specs.declared.call.TraceCall.the-variants.{Begin, Finish, Withdraw, Read, Step, Seal, Restart, Cut}
+use Rattle.trace.specs.declared.call.Mode.{Mode}
+use Rattle.trace.specs.Calls.{flag-of}
 use Rattle.trace.specs.Format.{and-then}
 use Rattle.assembly.specs.declared.keywords.CallWord.{CallWord}
 use Rattle.assembly.specs.declared.keywords.CallWord.the-variants as word
 use Rattle.assembly.specs.Words.{only}
 use Rattle.assembly.specs.Numbers.{number-of, byte-of}
+use Rattle.assembly.specs.Keywords.{mode-of}
 
 abbrev pub number-in : List (List ℕ) → Option ℕ
 number-in ws = and-then (only ws) number-of
@@ -43,3 +46,10 @@ call-in word.Step ws = alone-in Step ws
 call-in word.Seal ws = alone-in Seal ws
 call-in word.Restart ws = mapped (λ n. Restart n) (byte-in ws)
 call-in word.Cut ws = mapped (λ n. Cut n) (byte-in ws)
+
+abbrev pub mode-in : List (List ℕ) → Option Mode
+mode-in ws = and-then (only ws) mode-of
+
+-- the number of retry layers
+abbrev pub retry-in : List (List ℕ) → Option Bool
+retry-in ws = and-then (byte-in ws) flag-of

@@ -1,4 +1,6 @@
 pub mod Arguments
+pub mod Assembled
 pub mod Keywords
 pub mod Numbers
+pub mod Statements
 pub mod Words

@@ -1,7 +1,7 @@
 -- Lines and words of a text.
 use mathlib.Core.List.{List, [], _∷_}
 use mathlib.Core.Bool.{Bool, cond, not, _||_}
-use Prim.Native.Nat.{ℕ, zero, suc}
+use Prim.Native.Nat.{ℕ, suc}
 use lib.Dec.{eqb}
 use denote.Ref.{RefT, now}
 use Rattle.std.specs.declared.option.Option.{Option}

@@ -1,14 +1,17 @@
 // What follows the first word of a line.
 ghost use mathlib.Core.Path.{_≡_};
 ghost use Rattle.assembly.specs.Words.{words};
-ghost use Rattle.assembly.specs.Arguments.{number-in, byte-in, begin-in, alone-in, call-in};
+ghost use Rattle.assembly.specs.Arguments.{number-in, byte-in, mode-in, retry-in, begin-in, alone-in, call-in};
 use crate::keywords::CallWord;
+use crate::keywords::mode_named;
 use crate::numbers::byte;
 use crate::numbers::number;
 use crate::words::first_word;
 use crate::words::only_word;
 use crate::words::same;
+use trace::call::Mode;
 use trace::call::TraceCall;
+use trace::call::flag_from_byte;
 
 // The only word, as a number.
 fn only_number(bytes: &[u8]) -> Option<u16>
@@ -18,10 +21,23 @@ fn only_number(bytes: &[u8]) -> Option<u16>
 }
 
 // The only word, as a byte.
-pub fn only_byte(bytes: &[u8]) -> Option<u8>
+fn only_byte(bytes: &[u8]) -> Option<u8>
     ensures { λ r. ⌜ r ≡ byte-in (words (now (bytes .entry))) ⌝ }
 {
     byte(only_word(bytes)?)
+}
+
+pub fn mode_in(bytes: &[u8]) -> Option<Mode>
+    ensures { λ r. ⌜ r ≡ mode-in (words (now (bytes .entry))) ⌝ }
+{
+    mode_named(only_word(bytes)?)
+}
+
+// Whether there is a retry layer, from the number of layers.
+pub fn retry_in(bytes: &[u8]) -> Option<bool>
+    ensures { λ r. ⌜ r ≡ retry-in (words (now (bytes .entry))) ⌝ }
+{
+    flag_from_byte(only_byte(bytes)?)
 }
 
 // A place, the word `fill` and a byte.

@@ -1,5 +1,4 @@
-use mathlib.Core.Path.{_≡_, sym, _∙_}
-use lib.ListN.{drop}
+use mathlib.Core.Path.{sym, _∙_}
 use Rattle.std.proofs.shelf.Lists.{at-drop-all}
 use Rattle.assembly.specs.Numbers.{with-digits}
 use Rattle.assembly.proofs.Digits.{number-some, digits-more}

@@ -1,0 +1,46 @@
+ghost use mathlib.Core.Path.{_≡_};
+ghost use Rattle.assembly.specs.Assembled.{assembled, located-at, Assembles};
+use crate::mistake::AssemblyError;
+use crate::mistake::LineError;
+use crate::statements::take_line;
+use crate::words::Class;
+use crate::words::behind;
+use crate::words::position;
+use std::alloc::Global;
+use trace::call::Mode;
+use trace::trace::Trace;
+
+// The most bytes of a text.
+pub const TEXT_MAX: usize = 1_048_576;
+
+// A line's error with its number.
+fn located(line: usize, error: LineError) -> AssemblyError
+    ensures { λ r. ⌜ r ≡ located-at line error ⌝ }
+{
+    match error {
+        LineError::Mistake(mistake) => AssemblyError::Line { line, mistake },
+        LineError::NoMemory => AssemblyError::NoMemory,
+    }
+}
+
+// The trace that the text describes.
+pub fn assemble(heap: Global, text: &[u8]) -> Result<Trace, AssemblyError>
+    ensures { λ r. ⌜ Assembles (assembled (now (text .entry))) r ⌝ }
+{
+    if text.len() > TEXT_MAX {
+        return Err(AssemblyError::TooLong);
+    }
+    let mut trace = Trace::new(heap, Mode::Overlap, false);
+    let mut line = 1;
+    let mut rest = text;
+    while !rest.is_empty() {
+        let end = position(rest, Class::LineEnd);
+        match take_line(&mut trace, &rest[0..end]) {
+            Ok(()) => {}
+            Err(error) => return Err(located(line, error)),
+        }
+        line += 1;
+        rest = behind(rest, end);
+    }
+    Ok(trace)
+}
