@@ -21,7 +21,7 @@ use Rattle.assembly.specs.declared.mistake.AssemblyError.the-variants.{TooLong
 use Rattle.assembly.specs.declared.words.Class.the-variants.{LineEnd}
 use Rattle.assembly.specs.Words.{first-at, lines, words}
 use Rattle.assembly.specs.Statements.{stated, uncommented, Comes}
-use Rattle.assembly.specs.Assembled.{at-line, from-line, assembled, located-at, Assembles}
+use Rattle.assembly.specs.Assembled.{at-line, from-line, assembled, located-at, Fails}
 use Rattle.assembly.proofs.Splitting.{pieces-cut}
 
 pub some-bytes : (bs : List ℕ) → eqb (length bs) 0 ≡ false → 0 < length bs
@@ -53,13 +53,13 @@ module _ (n i : ℕ) (bs : List ℕ) (t : Trace) (some : 0 < length bs) (e : i �
   line-wrong mistake o = first-line ∙ ap (at-line n (from-line (n + 1) (lines (drop (suc i) bs)))) o
 
   pub line-failed : (error : LineError) (u : Trace) (r : AssemblyError) → Comes (stated (words (uncommented (take (i - 0) bs))) t) (Err error) u → r ≡ located-at n error →
-      Assembles (from-line n (lines bs) t) (Err r)
-  line-failed (line-error.Mistake mistake) u r o e = subst (λ x. Assembles (from-line n (lines bs) t) (Err x)) (sym e) (line-wrong mistake o)
-  line-failed line-error.NoMemory u r o e = subst (λ x. Assembles (from-line n (lines bs) t) (Err x)) (sym e) tt
+      Fails (from-line n (lines bs) t) r
+  line-failed (line-error.Mistake mistake) u r o e = subst (λ x. Fails (from-line n (lines bs) t) x) (sym e) (line-wrong mistake o)
+  line-failed line-error.NoMemory u r o e = subst (λ x. Fails (from-line n (lines bs) t) x) (sym e) tt
 
 -- what holds of what is left holds of the whole
-pub fails-as : (error : AssemblyError) {a b : Result Trace AssemblyError} → a ≡ b → Assembles a (Err error) → Assembles b (Err error)
-fails-as error e h = subst (λ x. Assembles x (Err error)) e h
+pub fails-as : (error : AssemblyError) {a b : Result Trace AssemblyError} → a ≡ b → Fails a error → Fails b error
+fails-as error e h = subst (λ x. Fails x error) e h
 
 pub shorter : (bs rest : List ℕ) (i : ℕ) → 0 < length bs → rest ≡ drop (suc i) bs → length rest < length bs
 shorter bs rest i some e = omega (arith, ap length e, length-drop (suc i) bs)

@@ -1,5 +1,5 @@
 ghost use mathlib.Core.Path.{_≡_};
-ghost use Rattle.assembly.specs.Assembled.{assembled, located-at, Assembles};
+ghost use Rattle.assembly.specs.Assembled.{assembled, located-at, Assembles, Writes};
 use crate::mistake::AssemblyError;
 use crate::mistake::LineError;
 use crate::statements::take_line;
@@ -43,4 +43,15 @@ pub fn assemble(heap: Global, text: &[u8]) -> Result<Trace, AssemblyError>
         rest = behind(rest, end);
     }
     Ok(trace)
+}
+
+// The bytes of the trace that the text describes: decoding them gives that trace.
+pub fn assemble_bytes(heap: Global, text: &[u8]) -> Result<Vec<u8>, AssemblyError>
+    ensures { λ r. ⌜ Writes (assembled (now (text .entry))) r ⌝ }
+{
+    let trace = assemble(heap, text)?;
+    match trace.encode(heap) {
+        Ok(bytes) => Ok(bytes),
+        Err(_) => Err(AssemblyError::NoMemory),
+    }
 }

@@ -1,3 +1,6 @@
+ghost use mathlib.Core.Path.{_≡_};
+ghost use Rattle.assembly.specs.Messages.{message-of};
+
 // What a line of a text can do wrong.
 #[derive(Clone, Copy, PartialEq, Eq, Debug)]
 pub enum Mistake {
@@ -9,6 +12,20 @@ pub enum Mistake {
     PlanFull,
     // there are as many calls as a trace may have
     CallsFull,
+}
+
+impl Mistake {
+    // The mistake in words.
+    pub fn message(self) -> &'static str
+        ensures { λ r. ⌜ now r ≡ message-of self ⌝ }
+    {
+        match self {
+            Mistake::UnknownWord => "no statement begins with this word",
+            Mistake::Arguments => "what follows the first word does not fit it",
+            Mistake::PlanFull => "the plan has more than 256 entries",
+            Mistake::CallsFull => "there are more than 1,000 calls",
+        }
+    }
 }
 
 // Why a line was not taken.
