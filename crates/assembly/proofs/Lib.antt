@@ -2,3 +2,4 @@ pub mod Digits
 pub mod Lining
 pub mod Splitting
 pub mod Stating
+pub mod Telling

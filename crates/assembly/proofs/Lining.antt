@@ -7,7 +7,7 @@ use native.Mathlib.Omega.{arith}
 use lib.Dec.{eqb}
 use lib.ListN.{length, take, drop}
 use Rattle.std.proofs.shelf.Lists.{length-drop}
-use Rattle.std.proofs.shelf.Tests.{both-ways, le-leb, eqb-true}
+use Rattle.std.proofs.shelf.Tests.{both-ways, le-leb, lt-leb, eqb-true}
 use Rattle.std.specs.declared.result.Result.{Result}
 use Rattle.std.specs.declared.result.Result.the-variants.{Ok, Err}
 use Rattle.trace.specs.declared.call.Mode.the-variants.{Overlap}
@@ -34,6 +34,9 @@ no-bytes (b ∷ bs) e = absurd (omega (arith, eqb-true (length (b ∷ bs)) 0 e))
 
 pub assembled-within : (text : List ℕ) → length text ≤ 1048576 → assembled text ≡ from-line 1 (lines text) (bare Overlap false)
 assembled-within text l = ap (λ b. cond b (from-line 1 (lines text) (bare Overlap false)) (Err TooLong)) (le-leb (length text) 1048576 l)
+
+pub assembled-past : (text : List ℕ) → 1048576 < length text → assembled text ≡ Err TooLong
+assembled-past text l = ap (λ b. cond b (from-line 1 (lines text) (bare Overlap false)) (Err TooLong)) (lt-leb (length text) 1048576 l)
 
 -- the first line ends at i
 module _ (n i : ℕ) (bs : List ℕ) (t : Trace) (some : 0 < length bs) (e : i ≡ first-at LineEnd bs) where

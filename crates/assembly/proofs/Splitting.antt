@@ -28,14 +28,6 @@ scan-more class bs i l e =
 pub scan-all : (class : Class) (bs : List ℕ) (i : ℕ) → length bs ≤ i → i + first-at class (drop i bs) ≡ i
 scan-all class bs i l = at-drop-all (λ xs. i + first-at class xs) bs i l ∙ (let e : i + 0 ≡ i = omega arith in e)
 
-cond-within : (t : Bool) (n m : ℕ) → n ≤ m → cond t 0 (suc n) ≤ suc m
-cond-within true n m l = omega arith
-cond-within false n m l = omega arith
-
-pub first-at-within : (class : Class) (bs : List ℕ) → first-at class bs ≤ length bs
-first-at-within class [] = omega arith
-first-at-within class (b ∷ bs) = cond-within (holds class b) (first-at class bs) (length bs) (first-at-within class bs)
-
 -- the first part, and those behind its end
 pub pieces-cut : (class : Class) (bs : List ℕ) → 0 < length bs → pieces class bs ≡ take (first-at class bs) bs ∷ pieces class (drop (suc (first-at class bs)) bs)
 pieces-cut class [] l = absurd (omega arith)

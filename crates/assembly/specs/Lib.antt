@@ -4,4 +4,5 @@ pub mod Keywords
 pub mod Messages
 pub mod Numbers
 pub mod Statements
+pub mod Told
 pub mod Words

@@ -1,5 +1,6 @@
 ghost use mathlib.Core.Path.{_≡_};
 ghost use Rattle.assembly.specs.Assembled.{assembled, located-at, Assembles, Writes};
+ghost use Rattle.assembly.specs.Told.{Reads-back};
 use crate::mistake::AssemblyError;
 use crate::mistake::LineError;
 use crate::statements::take_line;
@@ -23,9 +24,10 @@ fn located(line: usize, error: LineError) -> AssemblyError
     }
 }
 
-// The trace that the text describes.
+// The trace that the text describes. Each trace has a text that gives it.
 pub fn assemble(heap: Global, text: &[u8]) -> Result<Trace, AssemblyError>
-    ensures { λ r. ⌜ Assembles (assembled (now (text .entry))) r ⌝ }
+    ensures value { λ r. ⌜ Assembles (assembled (now (text .entry))) r ⌝ }
+    ensures told { λ r. ⌜ Reads-back (now (text .entry)) r ⌝ }
 {
     if text.len() > TEXT_MAX {
         return Err(AssemblyError::TooLong);

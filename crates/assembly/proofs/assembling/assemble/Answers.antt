@@ -1,18 +1,31 @@
-use mathlib.Core.Path.{sym, ap, _∙_}
+use mathlib.Core.Path.{_≡_, sym, ap, _∙_}
 use Prim.Native.Nat.{_<_}
 use native.Mathlib.Omega.{arith}
 use lib.ListN.{length}
 use Rattle.trace.specs.Traces.{trace-of}
-use Rattle.assembly.specs.Assembled.{from-line}
-use Rattle.assembly.proofs.Lining.{some-bytes, no-bytes, assembled-within, line-taken, line-failed, fails-as, shorter}
+use Rattle.std.specs.declared.result.Result.the-variants.{Ok, Err}
+use Rattle.assembly.specs.declared.mistake.AssemblyError.the-variants.{TooLong}
+use Rattle.assembly.specs.Assembled.{from-line, assembled, Fails}
+use Rattle.assembly.proofs.Lining.{some-bytes, no-bytes, assembled-within, assembled-past, line-taken, line-failed, fails-as, shorter}
+use Rattle.assembly.proofs.Telling.{reads-back}
 use Rattle.assembly.proofs.assembling.assemble.Needs as need
+
+pub returns-then-text-gt-TEXT-MAX : need.returns-then-text-gt-TEXT-MAX
+returns-then-text-gt-TEXT-MAX c =
+    let text = c .args .text .now in
+    let value : assembled text ≡ Err TooLong = assembled-past text (omega arith) in
+    record { value = value; told = reads-back text (Err TooLong) value }
 
 pub returns-in-Err : need.returns-in-Err
 returns-in-Err c =
+    let text = c .args .text .now in
     let rest = c .loop-rest .rest .now in
-    fails-as (c .located .result) (c .loop-rest .inv .0 ∙ sym (assembled-within (c .args .text .now) (omega arith)))
+    let error = c .located .result in
+    let value : Fails (assembled text) error =
+    fails-as error (c .loop-rest .inv .0 ∙ sym (assembled-within text (omega arith)))
     (line-failed (c .loop-rest .line) (c .position-end .result) rest (trace-of (c .loop-rest .trace)) (some-bytes rest (sym (c .is-empty .ensures) ∙ c .loop-rest-test .taken)) (c .position-end .ensures .value)
-    (c .in-Err .error) (trace-of (c .take-line .last .trace)) (c .located .result) (c .in-Err .ensures tt) (c .located .ensures))
+    (c .in-Err .error) (trace-of (c .take-line .last .trace)) error (c .in-Err .ensures tt) (c .located .ensures)) in
+    record { value = value; told = reads-back text (Err error) value }
 
 pub loop-rest-less : need.loop-rest-less
 loop-rest-less c =
@@ -31,7 +44,11 @@ loop-rest-again c =
 
 pub returns : need.returns
 returns c =
+    let text = c .args .text .now in
     let rest = c .loop-rest .rest .now in
-    assembled-within (c .args .text .now) (omega arith)
+    let trace = c .loop-rest .trace in
+    let value : assembled text ≡ Ok (trace-of trace) =
+    assembled-within text (omega arith)
     ∙ sym (c .loop-rest .inv .0)
-    ∙ ap (λ ls. from-line (c .loop-rest .line) ls (trace-of (c .loop-rest .trace))) (sym (no-bytes rest (sym (c .is-empty .ensures) ∙ c .loop-rest-test .left)))
+    ∙ ap (λ ls. from-line (c .loop-rest .line) ls (trace-of trace)) (sym (no-bytes rest (sym (c .is-empty .ensures) ∙ c .loop-rest-test .left))) in
+    record { value = value; told = reads-back text (Ok trace) value }
