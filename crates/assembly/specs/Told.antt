@@ -20,7 +20,7 @@ use Rattle.trace.specs.Traces.{trace-of}
 use Rattle.assembly.specs.declared.mistake.AssemblyError.{AssemblyError}
 use Rattle.assembly.specs.declared.mistake.AssemblyError.the-variants as assembly-error
 
--- the last k digits of a number in base ten
+-- a number in base ten, with at most k digits
 abbrev pub digits : ℕ → ℕ → List ℕ
 digits zero n = []
 digits (suc k) n = cond (ltb n 10) ((48 + n) ∷ []) (digits k (n / 10) ++ (48 + n % 10) ∷ [])

@@ -27,14 +27,14 @@ fn only_byte(bytes: &[u8]) -> Option<u8>
     byte(only_word(bytes)?)
 }
 
-pub fn mode_in(bytes: &[u8]) -> Option<Mode>
+pub(crate) fn mode_in(bytes: &[u8]) -> Option<Mode>
     ensures { λ r. ⌜ r ≡ mode-in (words (now (bytes .entry))) ⌝ }
 {
     mode_named(only_word(bytes)?)
 }
 
 // Whether there is a retry layer, from the number of layers.
-pub fn retry_in(bytes: &[u8]) -> Option<bool>
+pub(crate) fn retry_in(bytes: &[u8]) -> Option<bool>
     ensures { λ r. ⌜ r ≡ retry-in (words (now (bytes .entry))) ⌝ }
 {
     flag_from_byte(only_byte(bytes)?)
@@ -65,7 +65,7 @@ fn alone(bytes: &[u8], call: TraceCall) -> Option<TraceCall>
 }
 
 // The call of a line's first word and what follows it.
-pub fn call_with(word: CallWord, bytes: &[u8]) -> Option<TraceCall>
+pub(crate) fn call_with(word: CallWord, bytes: &[u8]) -> Option<TraceCall>
     ensures { λ r. ⌜ r ≡ call-in word (words (now (bytes .entry))) ⌝ }
 {
     match word {

@@ -6,7 +6,7 @@ use trace::call::Mode;
 
 // The first word of a line that is a call.
 #[derive(Clone, Copy)]
-pub enum CallWord {
+pub(crate) enum CallWord {
     Begin,
     Finish,
     Withdraw,
@@ -19,14 +19,14 @@ pub enum CallWord {
 
 // The first word of a line.
 #[derive(Clone, Copy)]
-pub enum Keyword {
+pub(crate) enum Keyword {
     Mode,
     Retry,
     Plan,
     Call(CallWord),
 }
 
-pub fn mode_named(word: &[u8]) -> Option<Mode>
+pub(crate) fn mode_named(word: &[u8]) -> Option<Mode>
     ensures { λ r. ⌜ r ≡ mode-of (now (word .entry)) ⌝ }
 {
     if same(word, b"overlap") {
@@ -41,7 +41,7 @@ pub fn mode_named(word: &[u8]) -> Option<Mode>
 }
 
 // Whether an entry of a plan is bad.
-pub fn entry_named(word: &[u8]) -> Option<bool>
+pub(crate) fn entry_named(word: &[u8]) -> Option<bool>
     ensures { λ r. ⌜ r ≡ entry-of (now (word .entry)) ⌝ }
 {
     if same(word, b"good") {
@@ -83,7 +83,7 @@ fn call_named(word: &[u8]) -> Option<CallWord>
     None
 }
 
-pub fn keyword_named(word: &[u8]) -> Option<Keyword>
+pub(crate) fn keyword_named(word: &[u8]) -> Option<Keyword>
     ensures { λ r. ⌜ r ≡ keyword-of (now (word .entry)) ⌝ }
 {
     if same(word, b"mode") {

@@ -30,7 +30,7 @@ impl Mistake {
 
 // Why a line was not taken.
 #[derive(Clone, Copy)]
-pub enum LineError {
+pub(crate) enum LineError {
     Mistake(Mistake),
     NoMemory,
 }

@@ -19,7 +19,7 @@ fn appended(number: u16, digit: u8) -> Option<u16>
 }
 
 // The number that the word writes.
-pub fn number(word: &[u8]) -> Option<u16>
+pub(crate) fn number(word: &[u8]) -> Option<u16>
     ensures { λ r. ⌜ r ≡ number-of (now (word .entry)) ⌝ }
 {
     if word.is_empty() {
@@ -33,7 +33,7 @@ pub fn number(word: &[u8]) -> Option<u16>
 }
 
 // The number that the word writes, if it is a byte.
-pub fn byte(word: &[u8]) -> Option<u8>
+pub(crate) fn byte(word: &[u8]) -> Option<u8>
     ensures { λ r. ⌜ r ≡ byte-of (now (word .entry)) ⌝ }
 {
     let number = number(word)?;

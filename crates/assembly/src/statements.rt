@@ -77,7 +77,7 @@ fn obey(trace: &mut Trace, keyword: Keyword, bytes: &[u8]) -> Result<(), LineErr
 }
 
 // Takes a line.
-pub fn take_line(trace: &mut Trace, line: &[u8]) -> Result<(), LineError>
+pub(crate) fn take_line(trace: &mut Trace, line: &[u8]) -> Result<(), LineError>
     ensures { λ r. ⌜ Comes (stated (words (uncommented (now (line .entry)))) (trace-of (now (trace .entry)))) r (trace-of (now (trace .exit))) ⌝ }
 {
     let Some((word, rest)) = first_word(&line[0..position(line, Class::Comment)]) else {

@@ -9,7 +9,7 @@ ghost use denote.Ref.{now as held-by};
 
 // What ends a part of the text.
 #[derive(Clone, Copy)]
-pub enum Class {
+pub(crate) enum Class {
     LineEnd,
     Comment,
     Blank,
@@ -31,7 +31,7 @@ impl Class {
 }
 
 // The index of the first byte of the class, or the length where there is none.
-pub fn position(bytes: &[u8], class: Class) -> usize
+pub(crate) fn position(bytes: &[u8], class: Class) -> usize
     ensures value { λ r. ⌜ r ≡ first-at class (now (bytes .entry)) ⌝ }
     ensures within { λ r. ⌜ r ≤ length (now (bytes .entry)) ⌝ }
 {
@@ -44,7 +44,7 @@ pub fn position(bytes: &[u8], class: Class) -> usize
 }
 
 // What follows the index.
-pub fn behind(bytes: &[u8], index: usize) -> &[u8]
+pub(crate) fn behind(bytes: &[u8], index: usize) -> &[u8]
     ensures { λ r. ⌜ now r ≡ drop (suc index) (now (bytes .entry)) ⌝ }
 {
     if index < bytes.len() {
@@ -55,7 +55,7 @@ pub fn behind(bytes: &[u8], index: usize) -> &[u8]
 }
 
 // The first word, and what follows it; none where there is no word.
-pub fn first_word(bytes: &[u8]) -> Option<(&[u8], &[u8])>
+pub(crate) fn first_word(bytes: &[u8]) -> Option<(&[u8], &[u8])>
     ensures { λ r. ⌜ listed (mapped both-now r) ≡ words (now (bytes .entry)) ⌝ }
 {
     let rest = &bytes[position(bytes, Class::Dark)..];
@@ -67,7 +67,7 @@ pub fn first_word(bytes: &[u8]) -> Option<(&[u8], &[u8])>
 }
 
 // The word, if there is just one.
-pub fn only_word(bytes: &[u8]) -> Option<&[u8]>
+pub(crate) fn only_word(bytes: &[u8]) -> Option<&[u8]>
     ensures { λ r. ⌜ mapped held-by r ≡ only (words (now (bytes .entry))) ⌝ }
 {
     let (word, rest) = first_word(bytes)?;
@@ -77,7 +77,7 @@ pub fn only_word(bytes: &[u8]) -> Option<&[u8]>
     }
 }
 
-pub fn same(word: &[u8], name: &[u8]) -> bool
+pub(crate) fn same(word: &[u8], name: &[u8]) -> bool
     ensures { λ r. ⌜ r ≡ sameBytes (now (word .entry)) (now (name .entry)) ⌝ }
 {
     word == name
