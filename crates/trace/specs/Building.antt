@@ -2,7 +2,7 @@
 use mathlib.Core.Path.{_≡_}
 use mathlib.Core.List.{[], _∷_, _++_}
 use mathlib.Core.Bool.{Bool}
-use Prim.Native.Nat.{ℕ}
+use Prim.Native.Nat.{ℕ, _<_}
 use lib.ListN.{length}
 use Rattle.std.specs.declared.result.Result.{Result}
 use Rattle.std.specs.declared.result.Result.the-variants.{Ok, Err}
@@ -29,8 +29,8 @@ entries-in t = length (t .plan)
 abbrev pub calls-in : Trace → ℕ
 calls-in t = length (t .calls)
 
--- a trace grows by a change, or stays as it was: where it held as many as it may, or for want of memory
+-- a trace with room grows by a change; one that holds as many as it may stays as it was, and so does one for want of memory
 abbrev pub Grows : (Trace → ℕ) → ℕ → (Trace → Trace) → Trace → Result (Unit {0}) GrowError → Trace → Type 0
-Grows held most change before (Ok u) after = after ≡ change before
+Grows held most change before (Ok u) after = (held before < most) × (after ≡ change before)
 Grows held most change before (Err Full) after = (held before ≡ most) × (after ≡ before)
 Grows held most change before (Err NoMemory) after = after ≡ before

@@ -25,6 +25,6 @@ Finds f held (Err Malformed) = held ≡ None
 Finds f held (Err NoMemory) = Unit {0}
 
 -- the number of a refusal; want of memory has none
-abbrev pub number-of : DecodeError → Option ℕ
-number-of Malformed = Some 14
-number-of NoMemory = None
+abbrev pub refusal-number : DecodeError → Option ℕ
+refusal-number Malformed = Some 14
+refusal-number NoMemory = None

@@ -16,7 +16,7 @@ pub enum Mode {
 }
 
 impl Mode {
-    pub fn byte(self) -> u8
+    pub(crate) fn byte(self) -> u8
         ensures { λ r. ⌜ r ≡ mode-byte self ⌝ }
     {
         match self {
@@ -26,7 +26,7 @@ impl Mode {
         }
     }
 
-    pub fn from_byte(byte: u8) -> Option<Mode>
+    pub(crate) fn from_byte(byte: u8) -> Option<Mode>
         ensures { λ r. ⌜ r ≡ mode-of byte ⌝ }
     {
         match byte {
@@ -90,7 +90,7 @@ impl TraceCall {
     }
 
     // The call of a code; none where the code is no call's.
-    pub fn from_parts(code: u8, number: u16, fill: u8) -> Option<TraceCall>
+    pub(crate) fn from_parts(code: u8, number: u16, fill: u8) -> Option<TraceCall>
         ensures { λ r. ⌜ r ≡ call-of code number fill ⌝ }
     {
         match code {
@@ -110,7 +110,7 @@ impl TraceCall {
     }
 
     // The four bytes: code, number (the lower byte first) and fill, those that the call has no use for 0.
-    pub fn bytes(self) -> [u8; CALL_BYTES]
+    pub(crate) fn bytes(self) -> [u8; CALL_BYTES]
         ensures { λ r. ⌜ r ≡ call-bytes self ⌝ }
     {
         let (number, fill) = match self {

@@ -2,7 +2,7 @@ ghost use mathlib.Core.Path.{_≡_};
 ghost use Rattle.std.specs.Of.Vec.{vec-items};
 ghost use Rattle.std.specs.Vec.{made};
 ghost use Rattle.trace.specs.Format.{decode as decoded, encode as encoded, canonical as canonical-form, calls-of};
-ghost use Rattle.trace.specs.Traces.{trace-of, Finds, no-memory, number-of};
+ghost use Rattle.trace.specs.Traces.{trace-of, Finds, no-memory, refusal-number};
 use crate::call::TraceCall;
 use crate::sections::are_entries;
 use crate::sections::split;
@@ -23,7 +23,7 @@ pub enum DecodeError {
 impl DecodeError {
     // The number of the refusal; want of memory has none.
     pub fn number(self) -> Option<u8>
-        ensures { λ r. ⌜ r ≡ number-of self ⌝ }
+        ensures { λ r. ⌜ r ≡ refusal-number self ⌝ }
     {
         match self {
             DecodeError::Malformed => Some(14),

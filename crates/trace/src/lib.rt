@@ -4,6 +4,4 @@ pub mod call;
 pub mod decoding;
 pub mod encoding;
 mod sections;
-#[cfg(test)]
-mod tests;
 pub mod trace;

@@ -11,11 +11,11 @@ use crate::trace::CALLS_MAX;
 use crate::trace::PLAN_MAX;
 
 // How many options there are.
-pub const OPTIONS: u8 = 2;
+pub(crate) const OPTIONS: u8 = 2;
 
 // The options, and the bytes of the plan and of the calls.
 #[derive(Clone, Copy)]
-pub struct Sections<'a> {
+pub(crate) struct Sections<'a> {
     pub mode: Mode,
     pub retry: bool,
     pub plan: &'a [u8],
@@ -38,7 +38,7 @@ fn section(bytes: &[u8], most: usize, width: usize) -> Option<(&[u8], &[u8])>
 }
 
 // The three sections, if the input is made of them and nothing else.
-pub fn split(bytes: &[u8]) -> Option<Sections<'_>>
+pub(crate) fn split(bytes: &[u8]) -> Option<Sections<'_>>
     ensures { λ r. ⌜ mapped sections-now r ≡ sections-of (now (bytes .entry)) ⌝ }
 {
     let [count, mode, retry, rest @ ..] = bytes else {
@@ -63,7 +63,7 @@ pub fn split(bytes: &[u8]) -> Option<Sections<'_>>
 }
 
 // Whether each byte is an entry of a plan, 0 or 1.
-pub fn are_entries(bytes: &[u8]) -> bool
+pub(crate) fn are_entries(bytes: &[u8]) -> bool
     ensures { λ r. ⌜ r ≡ all-entries (now (bytes .entry)) ⌝ }
 {
     for byte in bytes {

@@ -1,19 +1,19 @@
-use crate::building::GrowError;
-use crate::building::GrowErrorDebug;
-use crate::building::GrowErrorPartialEq;
-use crate::call::Mode;
-use crate::call::ModeDebug;
-use crate::call::ModePartialEq;
-use crate::call::TraceCall;
-use crate::call::TraceCallDebug;
-use crate::call::TraceCallPartialEq;
-use crate::decoding::DecodeError;
-use crate::decoding::DecodeErrorDebug;
-use crate::decoding::decode;
-use crate::trace::PLAN_MAX;
-use crate::trace::Trace;
 use std::alloc::Global;
 use std::test::*;
+use trace::building::GrowError;
+use trace::building::GrowErrorDebug;
+use trace::building::GrowErrorPartialEq;
+use trace::call::Mode;
+use trace::call::ModeDebug;
+use trace::call::ModePartialEq;
+use trace::call::TraceCall;
+use trace::call::TraceCallDebug;
+use trace::call::TraceCallPartialEq;
+use trace::decoding::DecodeError;
+use trace::decoding::DecodeErrorDebug;
+use trace::decoding::decode;
+use trace::trace::PLAN_MAX;
+use trace::trace::Trace;
 
 fn is_malformed(heap: Global, bytes: &[u8]) -> bool {
     match decode(heap, bytes) {
