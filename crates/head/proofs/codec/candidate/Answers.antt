@@ -19,4 +19,4 @@ pub returns : need.returns
 returns c =
     let block = c .args .block .now in
     let all : c .loop-i .i ≡ getD block 5 0 = omega arith in
-    candidate-is _ block refl (subst (λ k. take k (c .loop-i .places) ≡ places-read k (drop 6 block)) all (c .loop-i .inv .0))
+    c .new .ensures .value ∙ candidate-is _ block refl (subst (λ k. take k (c .loop-i .places) ≡ places-read k (drop 6 block)) all (c .loop-i .inv .0))
