@@ -7,11 +7,11 @@ use Prim.Native.Nat.{ℕ, zero, suc, _+_, _-_, _*_, _/_, _%_, _<_, _≤_}
 use native.Mathlib.Omega.{arith}
 use native.Mathlib.Numerals.{add-one}
 use lib.ListN.{length, getD, set, take, drop, replicate}
-use lib.Dec.{eqb, leb, ltb}
-use Rattle.std.proofs.shelf.Lists.{length-append, length-push, length-take-le, length-replicate, append-assoc, append-nil, at-drop-more, take-rest, set-append-right, take-more, take-more-set, getD-drop}
+use lib.Dec.{leb, ltb}
+use Rattle.std.proofs.shelf.Lists.{length-append, length-push, length-take-le, length-replicate, append-assoc, at-drop-more, take-rest, set-append-right, take-more, take-more-set, getD-drop}
 use Rattle.std.specs.Orderings.{Decides}
 use Rattle.std.proofs.shelf.Equals.{compares-decides}
-use Rattle.std.proofs.shelf.Tests.{and-parts, le-leb, lt-leb, and-from, both-ways, leb-true, lt-ltb}
+use Rattle.std.proofs.shelf.Tests.{and-parts, le-leb, leb-true, lt-ltb}
 use Rattle.head.specs.Head as model
 use Rattle.head.specs.Head.{place-bytes, places-read, two-bytes, four-bytes, sections, encode, decode, candidate, fits, same-bytes, all-below, none-twice}
 use Rattle.head.proofs.RoundTrip.{decode-encode, decode-sound}

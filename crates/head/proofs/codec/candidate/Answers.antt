@@ -1,7 +1,7 @@
 use mathlib.Core.Path.{_≡_, refl, subst, _∙_}
 use native.Mathlib.Omega.{arith}
-use Prim.Native.Nat.{_+_, _*_, _<_}
-use lib.ListN.{length, getD, take, drop}
+use Prim.Native.Nat.{_+_, _*_}
+use lib.ListN.{getD, take, drop}
 use Rattle.std.proofs.shelf.Lists.{length-set}
 use Rattle.head.specs.Head.{places-read}
 use Rattle.head.proofs.Bytes.{placed, candidate-is}

@@ -1,13 +1,13 @@
-use mathlib.Core.Path.{_≡_, refl, sym, ap, subst, _∙_}
-use mathlib.Core.Bool.{_&&_, cond, true, false, Bool}
-use mathlib.Core.Option.{Option as Maybe, some, none}
+use mathlib.Core.Path.{_≡_, sym, ap, subst, _∙_}
+use mathlib.Core.Bool.{cond}
+use mathlib.Core.Option.{some, none}
 use native.Mathlib.Omega.{arith}
 use Rattle.std.specs.Orderings.{Decides}
 use Rattle.std.proofs.shelf.Equals.{matches-decides}
-use Rattle.std.proofs.shelf.Tests.{and-left, and-right, and-from}
-use Rattle.head.specs.Head.{Head as ModelHead, encode, decode, fits}
+use Rattle.std.proofs.shelf.Tests.{and-right, and-from}
+use Rattle.head.specs.Head.{encode, fits}
 use Rattle.head.specs.Codes.{head-of}
-use Rattle.head.proofs.Bytes.{Decoded, decoded, decode-none, decode-by, decode-unfit}
+use Rattle.head.proofs.Bytes.{decoded, decode-none, decode-by, decode-unfit}
 use Rattle.head.proofs.codec.decode.Needs.{then-block-ne-BLOCK·by·then-block-ne-BLOCK, then-block-ne-BLOCK·by·else-block-ne-BLOCK·then-block-gt-MOST-PLACES}
 use Rattle.head.proofs.codec.decode.Needs.{else-fits·by·then-fits·else-eq, else-fits·by·else-fits}
 use Rattle.head.proofs.codec.decode.Needs as need
