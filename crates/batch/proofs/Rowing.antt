@@ -3,7 +3,7 @@ use mathlib.Core.Path.{_≡_, refl, sym, ap, subst, _∙_}
 use mathlib.Core.Logic.{⊎-elim}
 use mathlib.Core.List.{List, [], _∷_, _++_, map}
 use mathlib.Core.Bool.{Bool, true, false, cond}
-use mathlib.Core.Option.{Option as Maybe, some, none}
+use mathlib.Core.Option.{some, none}
 use Prim.Native.Nat.{ℕ, zero, suc, _+_, _-_, _<_, _≤_}
 use native.Mathlib.Omega.{arith}
 use native.Mathlib.Numerals.{add-one}
@@ -13,9 +13,9 @@ use Rattle.std.specs.shelf.Lists.{All}
 use Rattle.std.specs.Options.{isSome}
 use Rattle.std.specs.declared.option.Option.{Option}
 use Rattle.std.specs.declared.option.Option.the-variants.{Some, None}
-use Rattle.std.proofs.shelf.Lists.{at-drop-more, at-drop-all, length-append, length-take-le, getD-take, getD-append-right, set-append-right, ext-getD, length-set}
-use Rattle.std.proofs.shelf.Tests.{cases-lt, both-ways}
-use Rattle.disk.specs.Medium.{Block, Write}
+use Rattle.std.proofs.shelf.Lists.{append-nil, map-append, at-drop-more, at-drop-all, length-append, getD-append-right, ext-getD}
+use Rattle.std.proofs.shelf.Tests.{cases-lt}
+use Rattle.disk.specs.Medium.{Write}
 use Rattle.head.specs.Head.{holds}
 use Rattle.journal_law.specs.Cache.{Begun, find, without, collect, cached}
 use Rattle.batch.specs.declared.entry.Entry.{Entry}
@@ -97,16 +97,8 @@ module _ (place : ℕ) where
   cached-past [] rest a = refl
   cached-past (x ∷ pre) rest a = ap (λ b. cond b (some (x .bytes)) (cached place (map write-in pre ++ rest))) (a .0) ∙ cached-past pre rest (a .1)
 
-  map-split : {Y : Type 0} (f : Entry → Y) (pre : List Entry) (ys : List Entry) → map f (pre ++ ys) ≡ map f pre ++ map f ys
-  map-split f [] ys = refl
-  map-split f (x ∷ pre) ys = ap (λ l. f x ∷ l) (map-split f pre ys)
-
   pub cached-none : (xs : List Entry) → first-from 0 at-place xs ≡ None → cached place (map write-in xs) ≡ none
-  cached-none xs e = ap (cached place) (sym (append-none (map write-in xs))) ∙ cached-past xs [] (first-none 0 at-place xs e)
-    where
-      append-none : (ws : List Write) → ws ++ [] ≡ ws
-      append-none [] = refl
-      append-none (w ∷ ws) = ap (λ l. w ∷ l) (append-none ws)
+  cached-none xs e = ap (cached place) (sym (append-nil (map write-in xs))) ∙ cached-past xs [] (first-none 0 at-place xs e)
 
   collect-past : (w : Write) (pre : List Entry) (rest : List Write) → w .place ≡ place → All (λ x. at-place x ≡ false) pre → collect w (map write-in pre ++ rest) ≡ map write-in pre ++ collect w rest
   collect-past w [] rest q a = refl
@@ -126,13 +118,10 @@ module _ (place : ℕ) (xs : List Entry) (i : ℕ) (found : first-from 0 (at-pla
   row : Row (at-place place) xs i
   row = let r = first-row 0 (at-place place) xs i found in subst (Row (at-place place) xs) (let q : r .0 ≡ i = omega (arith, r .1) in q) (r .2)
 
-  pub place-within : i < length xs
-  place-within = omega (arith, ap length (row .is), length-append (row .pre) (row .here ∷ row .post), row .at)
-
   pub cached-some : cached place (map write-in xs) ≡ some (getD xs i no-entry .bytes)
   cached-some =
       ap (λ l. cached place (map write-in l)) (row .is)
-      ∙ ap (cached place) (map-split place write-in (row .pre) (row .here ∷ row .post))
+      ∙ ap (cached place) (map-append write-in (row .pre) (row .here ∷ row .post))
       ∙ cached-past place (row .pre) (map write-in (row .here ∷ row .post)) (row .before)
       ∙ ap (λ b. cond b (some (row .here .bytes)) (cached place (map write-in (row .post)))) (row .passes)
       ∙ ap (λ (e : Entry). some (e .bytes)) (sym (ap (λ l. getD l i no-entry) (row .is) ∙ getD-middle (row .pre) (row .here) (row .post) i (row .at)))
@@ -143,23 +132,19 @@ module _ (place : ℕ) (xs : List Entry) (i : ℕ) (found : first-from 0 (at-pla
       ap (λ l. map write-in (set l i e)) (row .is)
       ∙ ap (λ k. map write-in (set (row .pre ++ row .here ∷ row .post) k e)) (sym (row .at))
       ∙ ap (map write-in) (set-middle (row .pre) (row .here) e (row .post))
-      ∙ map-split place write-in (row .pre) (e ∷ row .post)
+      ∙ map-append write-in (row .pre) (e ∷ row .post)
       ∙ ap (λ b. map write-in (row .pre) ++ cond b (write-in e ∷ map write-in (row .post)) (write-in (row .here) ∷ collect (write-in e) (map write-in (row .post))))
       (sym (ap (eqb (row .here .place)) q ∙ row .passes))
       ∙ sym (collect-past place (write-in e) (row .pre) (map write-in (row .here ∷ row .post)) q (row .before))
-      ∙ ap (collect (write-in e)) (sym (map-split place write-in (row .pre) (row .here ∷ row .post)))
+      ∙ ap (collect (write-in e)) (sym (map-append write-in (row .pre) (row .here ∷ row .post)))
       ∙ ap (λ l. collect (write-in e) (map write-in l)) (sym (row .is))
 
 -- a write at a place that no row holds comes behind the rest
 pub collect-none : (e : Entry) (xs : List Entry) → first-from 0 (at-place (e .place)) xs ≡ None → map write-in (xs ++ e ∷ []) ≡ collect (write-in e) (map write-in xs)
 collect-none e xs f =
-    map-split (e .place) write-in xs (e ∷ [])
+    map-append write-in xs (e ∷ [])
     ∙ sym (collect-past (e .place) (write-in e) xs [] refl (first-none 0 (at-place (e .place)) xs f))
-    ∙ ap (collect (write-in e)) (append-none (map write-in xs))
-  where
-    append-none : (ws : List Write) → ws ++ [] ≡ ws
-    append-none [] = refl
-    append-none (w ∷ ws) = ap (λ l. w ∷ l) (append-none ws)
+    ∙ ap (collect (write-in e)) (append-nil (map write-in xs))
 
 -- ---- an open write leaves
 
@@ -176,16 +161,12 @@ module _ (mark : ℕ) where
   without-past (x ∷ pre) rest a =
       ap (λ b. cond b (map begun-in pre ++ rest) (begun-in x ∷ without mark (map begun-in pre ++ rest))) (a .0) ∙ ap (λ l. begun-in x ∷ l) (without-past pre rest (a .1))
 
-  append-none : (ws : List Begun) → ws ++ [] ≡ ws
-  append-none [] = refl
-  append-none (w ∷ ws) = ap (λ l. w ∷ l) (append-none ws)
-
   pub find-none : (xs : List Entry) → first-from 0 at-mark xs ≡ None → find mark (map begun-in xs) ≡ none
-  find-none xs e = ap (find mark) (sym (append-none (map begun-in xs))) ∙ find-past xs [] (first-none 0 at-mark xs e)
+  find-none xs e = ap (find mark) (sym (append-nil (map begun-in xs))) ∙ find-past xs [] (first-none 0 at-mark xs e)
 
   pub without-none : (xs : List Entry) → first-from 0 at-mark xs ≡ None → map begun-in xs ≡ without mark (map begun-in xs)
   without-none xs e =
-      sym (append-none (map begun-in xs)) ∙ sym (without-past xs [] (first-none 0 at-mark xs e)) ∙ ap (without mark) (append-none (map begun-in xs))
+      sym (append-nil (map begun-in xs)) ∙ sym (without-past xs [] (first-none 0 at-mark xs e)) ∙ ap (without mark) (append-nil (map begun-in xs))
 
   module _ (xs : List Entry) (i : ℕ) (found : first-from 0 at-mark xs ≡ Some i) where
     mark-row : Row at-mark xs i
@@ -194,7 +175,7 @@ module _ (mark : ℕ) where
     pub find-some : find mark (map begun-in xs) ≡ some (begun-in (getD xs i no-entry))
     find-some =
         ap (λ l. find mark (map begun-in l)) (mark-row .is)
-        ∙ ap (find mark) (map-split 0 begun-in (mark-row .pre) (mark-row .here ∷ mark-row .post))
+        ∙ ap (find mark) (map-append begun-in (mark-row .pre) (mark-row .here ∷ mark-row .post))
         ∙ find-past (mark-row .pre) (map begun-in (mark-row .here ∷ mark-row .post)) (mark-row .before)
         ∙ ap (λ b. cond b (some (begun-in (mark-row .here))) (find mark (map begun-in (mark-row .post)))) (mark-row .passes)
         ∙ ap (λ (e : Entry). some (begun-in e)) (sym (ap (λ l. getD l i no-entry) (mark-row .is) ∙ getD-middle (mark-row .pre) (mark-row .here) (mark-row .post) i (mark-row .at)))
@@ -204,10 +185,10 @@ module _ (mark : ℕ) where
         ((k : ℕ) → i ≤ k → k < length ys → getD ys k no-entry ≡ getD xs (k + 1) no-entry) → map begun-in ys ≡ without mark (map begun-in xs)
     without-some ys long front back =
         ap (map begun-in) left
-        ∙ map-split 0 begun-in (mark-row .pre) (mark-row .post)
+        ∙ map-append begun-in (mark-row .pre) (mark-row .post)
         ∙ ap (λ b. map begun-in (mark-row .pre) ++ cond b (map begun-in (mark-row .post)) (begun-in (mark-row .here) ∷ without mark (map begun-in (mark-row .post)))) (sym (mark-row .passes))
         ∙ sym (without-past (mark-row .pre) (map begun-in (mark-row .here ∷ mark-row .post)) (mark-row .before))
-        ∙ ap (without mark) (sym (map-split 0 begun-in (mark-row .pre) (mark-row .here ∷ mark-row .post)))
+        ∙ ap (without mark) (sym (map-append begun-in (mark-row .pre) (mark-row .here ∷ mark-row .post)))
         ∙ ap (λ l. without mark (map begun-in l)) (sym (mark-row .is))
       where
         total : length xs ≡ length (mark-row .pre) + suc (length (mark-row .post))

@@ -6,7 +6,7 @@ use lib.ListN.{take}
 use lib.Dec.{eqb}
 use Rattle.std.specs.declared.option.Option.{Option}
 use Rattle.std.specs.declared.option.Option.the-variants.{Some, None}
-use Rattle.disk.specs.Medium.{Block, Write}
+use Rattle.disk.specs.Medium.{Write}
 use Rattle.head.specs.Head.{holds}
 use Rattle.journal_law.specs.Cache.{Begun}
 use Rattle.batch.specs.declared.entry.Entry.{Entry}

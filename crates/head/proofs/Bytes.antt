@@ -7,14 +7,14 @@ use Prim.Native.Nat.{ℕ, zero, suc, _+_, _-_, _*_, _/_, _%_, _<_, _≤_}
 use native.Mathlib.Omega.{arith}
 use native.Mathlib.Numerals.{add-one}
 use lib.ListN.{length, getD, set, take, drop, replicate}
-use lib.Dec.{eqb, leb, ltb}
-use Rattle.std.proofs.shelf.Lists.{length-append, length-push, length-take-le, length-replicate, append-assoc, append-nil, at-drop-more, take-rest, set-append-right, take-more, take-more-set, getD-drop}
+use lib.Dec.{leb, ltb}
+use Rattle.std.proofs.shelf.Lists.{length-append, length-push, length-take-le, length-replicate, append-assoc, at-drop-more, take-rest, set-append-right, take-more, take-more-set, getD-drop}
 use Rattle.std.specs.Orderings.{Decides}
 use Rattle.std.proofs.shelf.Equals.{compares-decides}
-use Rattle.std.proofs.shelf.Tests.{and-parts, le-leb, lt-leb, and-from, both-ways, leb-true, lt-ltb}
+use Rattle.std.proofs.shelf.Tests.{and-parts, le-leb, leb-true, lt-ltb}
 use Rattle.head.specs.Head as model
 use Rattle.head.specs.Head.{place-bytes, places-read, two-bytes, four-bytes, sections, encode, decode, candidate, fits, same-bytes, all-below, none-twice}
-use Rattle.head.proofs.RoundTrip.{decode-sound}
+use Rattle.head.proofs.RoundTrip.{decode-encode, decode-sound}
 use Rattle.head.specs.declared.head.Head.{Head}
 use Rattle.head.specs.Codes.{head-of}
 
@@ -157,9 +157,14 @@ decode-none n b other = go (fits n (candidate b) && same-bytes b (encode (candid
 pub record Decoded (n : ℕ) (b : List ℕ) (o : Maybe model.Head) : Type 0 where
   pub value : o ≡ decode n b
   pub no-other : (h : model.Head) → o ≡ some h → (b ≡ encode h) × (fits n h ≡ true)
+  pub every-head : (h : model.Head) → n ≤ 65_536 → b ≡ encode h → fits n h ≡ true → o ≡ some h
 
 pub decoded : (n : ℕ) (b : List ℕ) (o : Maybe model.Head) → o ≡ decode n b → Decoded n b o
-decoded n b o e = record { value = e; no-other = λ h f. decode-sound n b h (sym e ∙ f) }
+decoded n b o e = record {
+  value = e;
+  no-other = λ h f. decode-sound n b h (sym e ∙ f);
+  every-head = λ h small is f. e ∙ ap (decode n) is ∙ decode-encode n h small f;
+}
 
 -- a place is left out of its own list, or not
 pub different-by : (ps : List ℕ) (i : ℕ) (t : Bool) → i < length ps → t ≡ model.holds (getD ps i 0) (take (length ps - (i + 1)) (drop (i + 1) ps)) →

@@ -3,14 +3,14 @@ use mathlib.Core.Path.{_≡_, refl, sym, ap, subst, _∙_}
 use mathlib.Core.List.{List, [], _∷_, _++_}
 use mathlib.Core.Bool.{Bool, true, false, cond, _&&_}
 use mathlib.Core.Option.{Option, some, none}
-use Prim.Native.Nat.{ℕ, zero, suc, _+_, _*_, _/_, _%_, _-_, _<_, _≤_}
+use Prim.Native.Nat.{ℕ, _+_, _*_, _/_, _%_, _-_, _<_, _≤_}
 use native.Mathlib.Omega.{arith}
 use native.Mathlib.Nat.{div-div-eq-div-mul, mod-add-div}
-use lib.ListN.{length, getD, drop, replicate}
+use lib.ListN.{length, replicate}
 use lib.Dec.{eqb, ltb, leb}
 use Rattle.std.proofs.shelf.Tests.{both-ways, and-parts, and-from, eqb-true, eq-eqb, ltb-true}
 use Rattle.disk.specs.Medium.{Block}
-use Rattle.head.specs.Head.{Head, encode, decode, fits, candidate, same-bytes, empty-head, place-bytes, places-read, all-below, none-twice, sections}
+use Rattle.head.specs.Head.{Head, encode, decode, fits, candidate, same-bytes, place-bytes, places-read, all-below, none-twice, sections}
 
 same-refl : (xs : List ℕ) → same-bytes xs xs ≡ true
 same-refl [] = refl

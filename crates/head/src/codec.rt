@@ -49,7 +49,7 @@ impl Head {
         ensures count { λ r. ⌜ r ≡ now (self .entry) .count ⌝ }
         ensures length { λ r. ⌜ r ≡ length (head-of (now (self .entry)) .places) ⌝ }
     {
-        self.count
+        self.places().len()
     }
 
     // The i-th home place.
@@ -57,7 +57,7 @@ impl Head {
         requires { ⌜ i < now self .count ⌝ }
         ensures { λ r. ⌜ r ≡ getD (head-of (now (self .entry)) .places) i 0 ⌝ }
     {
-        self.places[i]
+        self.places()[i]
     }
 
     // Whether the head can stand on a volume of so many home blocks.
@@ -102,17 +102,14 @@ fn candidate(block: &[u8]) -> Head
     for i in 0..count {
         places[i] = block[6 + 2 * i] as usize + 256 * block[7 + 2 * i] as usize;
     }
-    Head {
-        number,
-        places,
-        count,
-    }
+    Head::new(number, places, count)
 }
 
 // The head in a block, on a volume of so many home blocks; none where the block is not the encoding of a head that fits.
 pub fn decode(home: usize, block: &[u8]) -> Option<Head>
     ensures value { λ r. ⌜ found r ≡ decoded home (now (block .entry)) ⌝ }
     ensures no_other { λ r. ⌜ ((h : ModelHead) → found r ≡ some h → (now (block .entry) ≡ encoded h) × (fitting home h ≡ true)) ⌝ }
+    ensures every_head { λ r. ⌜ ((h : ModelHead) → home ≤ 65536 → now (block .entry) ≡ encoded h → fitting home h ≡ true → found r ≡ some h) ⌝ }
 {
     if block.len() != BLOCK || block[5] as usize > MOST_PLACES {
         return None;

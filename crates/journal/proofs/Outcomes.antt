@@ -3,10 +3,9 @@ use mathlib.Core.Path.{_≡_, refl, sym, ap, subst, _∙_}
 use mathlib.Core.List.{List, [], _∷_, _++_, map}
 use mathlib.Core.Bool.{Bool, true, false, cond, not}
 use mathlib.Core.Option.{Option as Maybe, some, none}
-use Prim.Native.Nat.{ℕ, zero, suc, _+_, _<_, _≤_}
-use native.Mathlib.Omega.{arith}
+use Prim.Native.Nat.{ℕ, suc, _+_}
 use native.Mathlib.Numerals.{add-one}
-use lib.ListN.{length, getD}
+use lib.ListN.{length}
 use lib.Dec.{eqb, ltb, leb}
 use Rattle.std.specs.Options.{isSome}
 use Rattle.batch.specs.Rows.{write-list}
@@ -17,7 +16,7 @@ use Rattle.std.specs.declared.result.Result.the-variants.{Ok, Err}
 use Rattle.std.proofs.shelf.Tests.{both-ways}
 use Rattle.disk.specs.declared.error.Kind.the-variants as kind
 use Rattle.disk.specs.declared.error.DiskError.{DiskError}
-use Rattle.disk.specs.Medium.{Block, Write, Effect, Medium, current, passed, cut}
+use Rattle.disk.specs.Medium.{Block, Write, Effect, Medium, passed, cut}
 use Rattle.disk.specs.Calls as disk
 use Rattle.disk.specs.Calls.{Fate, served, failed, wrong-length, wrong-place, fate, leaves, shows}
 use Rattle.errors.specs.declared.CacheCall.the-variants as during
@@ -26,7 +25,7 @@ use Rattle.errors.specs.declared.CacheError.the-variants as error
 use Rattle.errors.specs.Errors.{raised, during-call}
 use Rattle.head.specs.Head.{holds}
 use Rattle.journal_law.specs.Device.{Device}
-use Rattle.journal_law.specs.Cache.{Begun, Group, Live, opened, Call, begin, finish, withdraw, read, seal, step, restart, Answer, accepted, shown, refused, Outcome, decided, handed, place-of, begun-place, different, begun, find, without, collect, finished, withdrawn, cached, group-writes, read-disk, read-shown, is-some, sealed, Disk-call, write, flush, phase-call, next-phase, restarted-phase, in-phase, good-answer, call-fate, call-answer, good-medium, asked-write, group-after, step-met, stepped, group-restarted, slot, slots-flush, home, homes-flush, step-asks, group-asks, with-medium, outcome-in, outcome, with-group}
+use Rattle.journal_law.specs.Cache.{Begun, Group, Live, opened, Call, begin, finish, withdraw, read, seal, step, restart, Answer, accepted, shown, refused, Outcome, decided, place-of, begun-place, different, begun, find, without, collect, finished, withdrawn, cached, group-writes, read-disk, read-shown, is-some, sealed, Disk-call, write, phase-call, next-phase, restarted-phase, in-phase, good-answer, call-fate, call-answer, good-medium, asked-write, step-met, stepped, group-restarted, slot, slots-flush, home, homes-flush, step-asks, group-asks, with-medium, outcome, with-group}
 use Rattle.journal_law.specs.Recovery.{home-blocks}
 use Rattle.journal_law.specs.Laws.{Just-recovered, Ran, no-call, Laws, Runs-on}
 use Rattle.journal_volume.specs.Recovering.{with-number}
@@ -36,9 +35,8 @@ use Rattle.journal_law.proofs.Running.{lawful-runs, runs-on}
 use Rattle.group.specs.declared.phase.Phase.{Phase}
 use Rattle.group.specs.declared.phase.Phase.the-variants as phase
 use Rattle.group.specs.declared.group.Group.{Group as CodeGroup}
-use Rattle.group.specs.declared.turn.Progress.the-variants as progress
 use Rattle.group.specs.declared.turn.Turn.{Turn}
-use Rattle.group.specs.Phases.{phase-of, progress-number, wrote-to, flushed-to, next, advanced}
+use Rattle.group.specs.Phases.{phase-of, progress-number, wrote-to, next, advanced}
 use Rattle.group.specs.Groups.{group-of, under-way, Makes}
 use Rattle.journal.specs.Model.{read-as, filled}
 use Rattle.journal.proofs.Rooms.{without-none}

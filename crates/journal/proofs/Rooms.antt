@@ -1,19 +1,17 @@
 -- The places that are collected or open: how many they are, and that they stay below the head and apart.
 use mathlib.Core.Path.{_≡_, refl, sym, ap, subst, _∙_}
 use mathlib.Core.List.{List, [], _∷_, _++_, map}
-use mathlib.Core.Bool.{Bool, true, false, cond, not, _&&_}
-use mathlib.Core.Option.{Option, some, none}
+use mathlib.Core.Bool.{Bool, true, false, cond, not}
+use mathlib.Core.Option.{some, none}
 use Prim.Native.Nat.{ℕ, zero, suc, _+_, _<_, _≤_}
 use native.Mathlib.Omega.{arith}
 use lib.ListN.{length}
 use lib.Dec.{eqb, ltb}
-use Rattle.std.proofs.shelf.Lists.{length-map}
-use Rattle.std.proofs.shelf.Tests.{and-parts, and-from, ltb-true, lt-ltb, eqb-true, eqb-false, ne-eqb, not-from-false, not-true, cases-lt, both-ways}
+use Rattle.std.proofs.shelf.Tests.{and-parts, and-from, ltb-true, lt-ltb, eqb-true, eqb-false, ne-eqb, not-from-false, cases-lt, both-ways}
 use mathlib.Core.Logic.{⊎-elim}
-use Rattle.disk.specs.Medium.{Write}
 use Rattle.head.specs.Head.{holds, all-below, none-twice}
-use Rattle.journal_law.specs.Cache.{Begun, place-of, begun-place, different, find, without}
-use Rattle.journal_law.proofs.Tables.{holds-append, different-mono, different-past, different-fresh, length-different, once-parts, holds-found, holds-without, none-some}
+use Rattle.journal_law.specs.Cache.{Begun, begun-place, different, find, without}
+use Rattle.journal_law.proofs.Tables.{holds-append, different-mono, different-past, different-fresh, length-different, once-parts, holds-without, none-some}
 use Rattle.batch.specs.declared.entry.Entry.{Entry}
 use Rattle.batch.specs.Rows.{place-in, begun-in, outside}
 

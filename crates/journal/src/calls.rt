@@ -72,10 +72,10 @@ impl<D: BenchDisk> Live<D> {
         let Some(entry) = self.opens.take(ticket) else {
             return Err(CacheError::NoTicket);
         };
-        let mark = self.counter + 1;
+        let finish = self.counter + 1;
         self.collected.collect(entry);
-        self.counter = mark;
-        Ok(mark)
+        self.counter = finish;
+        Ok(finish)
     }
 
     // Withdraws the open write with the ticket.

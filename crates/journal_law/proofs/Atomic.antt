@@ -1,14 +1,13 @@
 -- Recovery is atomic: wherever the power fails, it shows the last committed sealing or the one under way.
 use mathlib.Core.Path.{_≡_, refl, sym, ap, subst, _∙_}
 use mathlib.Core.Logic.{_⊎_, inl, inr, ⊎-elim}
-use mathlib.Core.List.{List, [], _∷_, _++_, map}
-use mathlib.Core.Bool.{Bool, true, false, cond}
+use mathlib.Core.List.{List, [], map}
 use mathlib.Core.Option.{Option, some, none}
 use Prim.Native.Nat.{ℕ, zero, suc, _+_, _<_, _≤_}
 use native.Mathlib.Omega.{arith}
 use lib.ListN.{length, getD, take}
 use Rattle.std.proofs.shelf.Lists.{length-take-le, getD-take, ext-getD}
-use Rattle.disk.specs.Medium.{Effect, Block, Write, lay, Medium, current, cut}
+use Rattle.disk.specs.Medium.{Effect, Block, Write, Medium, current, cut}
 use Rattle.errors.specs.declared.CacheError.{CacheError}
 use Rattle.head.specs.Head.{encode, decode, empty-head}
 use Rattle.journal_law.specs.Device.{Device}
@@ -16,10 +15,10 @@ use Rattle.journal_law.specs.Recovery.{Recovery, Broken, recovered, started, c
 use Rattle.journal_law.specs.Cache.{Begun, Phase, slot, slots-flush, head, head-flush, home, homes-flush, empty, empty-flush, Group, Live, Call, begin, finish, withdraw, read, seal, step, restart, Answer, accepted, shown, refused, find, decided, seal-refusal, sealed, outcome-in, next-phase, restarted-phase, opened}
 use Rattle.journal_law.specs.Ledger.{Sealing, Under-way, Ledger, opening-ledger, note, now-finished, gone-back, moved, committed-by, in-phase-now, laid, by-mark, write-of}
 use Rattle.journal_law.specs.Laws.{Shows, Shows-last, Safe}
-use Rattle.journal_law.proofs.Media.{Kept, Keeps, kept-mono, kept-cut, kept-current, length-current, length-lay}
-use Rattle.journal_law.proofs.Forms.{Region, Idle, Names}
+use Rattle.journal_law.proofs.Media.{Keeps, kept-mono, kept-current, length-current, length-lay}
+use Rattle.journal_law.proofs.Forms.{Idle}
 use Rattle.journal_law.proofs.Restore.{Recovers, recovers-cut, idle, broken-recovers, success}
-use Rattle.journal_law.proofs.Invariant.{content, Over, In-phase, State, Invariant}
+use Rattle.journal_law.proofs.Invariant.{content, In-phase, State, Invariant}
 use Rattle.journal_law.proofs.Tables.{some-same, none-some}
 use Rattle.journal_law.proofs.Phases.{phase-cut}
 use Rattle.journal_law.proofs.Entries.{no-writes}

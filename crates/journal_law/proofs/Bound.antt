@@ -4,15 +4,15 @@ use mathlib.Core.Path.{_≡_, refl, sym, ap, subst, _∙_}
 use mathlib.Core.List.{List, [], _∷_, _++_}
 use mathlib.Core.Bool.{Bool, true, false, cond}
 use mathlib.Core.Option.{Option, some, none}
-use Prim.Native.Nat.{ℕ, zero, suc, _+_, _-_, _*_, _<_, _≤_}
+use Prim.Native.Nat.{ℕ, suc, _+_, _-_, _≤_}
 use native.Mathlib.Omega.{arith}
 use lib.ListN.{length}
 use lib.Dec.{ltb}
-use Rattle.std.proofs.shelf.Tests.{ltb-true, ltb-false}
+use Rattle.std.proofs.shelf.Tests.{ltb-true}
 use Rattle.disk.specs.Medium.{Effect, Block, Write, Entry, good, bad, due, later, Medium, size}
 use Rattle.disk.specs.Calls.{Fate, fate, served, failed, wrong-length, wrong-place, by-entry as fate-by}
 use Rattle.journal_law.specs.Device.{Device, bads}
-use Rattle.journal_law.specs.Cache.{Begun, Phase, slot, slots-flush, head, head-flush, home, homes-flush, empty, empty-flush, Group, Live, Call, begin, finish, withdraw, read, seal, step, restart, Outcome, decided, with-group, begin-refusal, begun, find, finished, withdrawn, cached, group-writes, read-shown, read-disk, read-refusal, seal-refusal, sealed, Disk-call, write, flush, phase-call, call-fate, next-phase, in-phase, good-medium, step-met, stepped, outcome-in}
+use Rattle.journal_law.specs.Cache.{Begun, Phase, slot, slots-flush, head, head-flush, home, homes-flush, empty, empty-flush, Group, Live, Call, begin, finish, withdraw, read, seal, step, restart, begin-refusal, begun, find, finished, withdrawn, cached, group-writes, read-shown, read-disk, read-refusal, seal-refusal, sealed, Disk-call, write, flush, phase-call, next-phase, in-phase, good-medium, step-met, stepped, outcome-in}
 use Rattle.journal_law.specs.Ledger.{Sealing, Under-way, Ledger}
 use Rattle.journal_law.specs.Laws.{calls-left, step-count, Is-restart}
 use Rattle.std.specs.shelf.Lists.{All}

@@ -1,29 +1,29 @@
 -- Every call of the cache, accepted or refused, keeps the invariant.
 use mathlib.Core.Path.{_≡_, refl, sym, ap, subst, _∙_}
-use mathlib.Core.Logic.{_⊎_, inl, inr, ⊎-elim}
+use mathlib.Core.Logic.{inl}
 use mathlib.Core.List.{List, [], _∷_, _++_, map}
 use mathlib.Core.Bool.{Bool, true, false, cond, not}
 use mathlib.Core.Option.{Option, some, none}
-use Prim.Native.Nat.{ℕ, zero, suc, _+_, _<_, _≤_}
+use Prim.Native.Nat.{ℕ, suc, _+_, _<_, _≤_}
 use native.Mathlib.Omega.{arith}
 use lib.ListN.{length, getD}
 use lib.Dec.{eqb, ltb, leb}
 use Rattle.std.proofs.shelf.Lists.{length-map}
 use Rattle.std.proofs.shelf.Tests.{leb-false, ltb-false, eqb-false, both-ways}
-use Rattle.disk.specs.Medium.{Block, Write, lay, Medium, current, passed, cut}
+use Rattle.disk.specs.Medium.{Block, Write, lay, Medium, passed, cut}
 use Rattle.disk.specs.Calls.{Fate, fate, served, failed, wrong-length, wrong-place}
 use Rattle.errors.specs.declared.CacheError.{CacheError}
 use Rattle.journal_law.specs.Device.{Device}
-use Rattle.head.specs.Head.{Head, encode, decode, empty-head, holds}
-use Rattle.journal_law.specs.Cache.{Begun, Phase, slot, Group, Live, Call, begin, finish, withdraw, read, seal, step, restart, Answer, accepted, shown, refused, Outcome, place-of, begun-place, different, decided, with-medium, with-group, begin-refusal, begun, find, without, collect, finished, withdrawn, cached, group-writes, read-shown, read-refusal, is-some, seal-refusal, sealed, nth, Disk-call, write, flush, phase-call, next-phase, restarted-phase, in-phase, good-answer, good-medium, stepped, step-met, call-fate, read-disk, group-restarted, outcome-in}
-use Rattle.journal_law.specs.Ledger.{Sealing, Under-way, Ledger, now-finished, committed-by, in-phase-now, with-under-way, moved, gone-back, step-noted, note, laid, by-mark, write-of}
-use Rattle.journal_law.proofs.Media.{Kept, Keeps, kept-mono, kept-cut, getD-lay, length-lay, over}
-use Rattle.journal_law.proofs.Forms.{Region, head-of, Idle, Logged, Names}
+use Rattle.head.specs.Head.{holds}
+use Rattle.journal_law.specs.Cache.{Begun, Phase, slot, Group, Live, Call, begin, finish, withdraw, read, seal, step, restart, accepted, refused, Outcome, place-of, begun-place, different, decided, with-medium, with-group, begin-refusal, begun, find, without, collect, finished, withdrawn, cached, group-writes, read-shown, read-refusal, is-some, seal-refusal, sealed, Disk-call, write, flush, phase-call, next-phase, restarted-phase, in-phase, good-answer, good-medium, stepped, step-met, call-fate, read-disk, group-restarted, outcome-in}
+use Rattle.journal_law.specs.Ledger.{Under-way, Ledger, now-finished, committed-by, in-phase-now, with-under-way, moved, gone-back, step-noted, note, laid, by-mark, write-of}
+use Rattle.journal_law.proofs.Media.{kept-mono, kept-cut, getD-lay, length-lay, over}
+use Rattle.journal_law.proofs.Forms.{head-of, Idle, Logged, Names}
 use Rattle.head.proofs.RoundTrip.{decode-encode}
 use Rattle.journal_law.proofs.Restore.{getD-places}
-use Rattle.journal_law.proofs.Start.{Fits, parts-fit, inside-all, blank-decodes}
+use Rattle.journal_law.proofs.Start.{parts-fit, inside-all, blank-decodes}
 use Rattle.journal_law.proofs.Tables.{holds-append, different-mono, length-different, none-some}
-use Rattle.journal_law.proofs.Invariant.{Table, content, Over, In-phase, State, last-sealed, Invariant}
+use Rattle.journal_law.proofs.Invariant.{content, In-phase, State, last-sealed, Invariant}
 use Rattle.journal_law.proofs.Phases.{phase-restart}
 use Rattle.journal_law.proofs.Steps.{same-phase, phase-step, phase-sealed}
 use Rattle.journal_law.proofs.Entries.{table-begin, table-finish, table-withdraw, table-seal, shown-finish}

@@ -3,21 +3,21 @@ use mathlib.Core.Path.{_≡_, refl, sym, ap, subst, _∙_}
 use mathlib.Core.List.{List, [], _∷_, _++_, map}
 use mathlib.Core.Bool.{Bool, true, false, cond, not}
 use mathlib.Core.Option.{Option, some, none}
-use Prim.Native.Nat.{ℕ, zero, suc, _+_, _<_, _≤_}
+use Prim.Native.Nat.{ℕ, _+_, _<_}
 use native.Mathlib.Omega.{arith}
 use lib.ListN.{length, getD}
 use lib.Dec.{eqb, leb}
 use Rattle.std.proofs.shelf.Tests.{eqb-true, ne-eqb, leb-false}
-use Rattle.disk.specs.Medium.{Block, Write, lay, Medium, current}
+use Rattle.disk.specs.Medium.{Block, Write, Medium, current}
 use Rattle.disk.specs.Calls.{Fate, fate, served, failed, wrong-length, wrong-place}
 use Rattle.errors.specs.declared.CacheError.the-variants as error
 use Rattle.journal_law.specs.Device.{Device}
-use Rattle.head.specs.Head.{Head, holds, none-twice, fits}
+use Rattle.head.specs.Head.{none-twice}
 use Rattle.journal_law.specs.Cache.{Phase, slot, slots-flush, head, head-flush, home, homes-flush, empty, empty-flush, Group, Live, read, Answer, accepted, shown, refused, place-of, decided, cached, group-writes, read-shown, read-disk, outcome-in}
 use Rattle.journal_law.specs.Ledger.{Sealing, Under-way, Ledger, laid, write-of, by-mark}
 use Rattle.std.specs.shelf.Lists.{All}
 use Rattle.journal_law.proofs.Media.{Keeps, kept-current, over, getD-lay, length-lay}
-use Rattle.journal_law.proofs.Forms.{head-of, Idle, Logged, Replayed, Cleared, Names}
+use Rattle.journal_law.proofs.Forms.{head-of, Idle, Logged, Replayed, Cleared}
 use Rattle.head.proofs.RoundTrip.{decode-sound}
 use Rattle.journal_law.proofs.Start.{fits-parts}
 use Rattle.journal_law.proofs.Tables.{some-same, none-some, fresh-places, once-parts}

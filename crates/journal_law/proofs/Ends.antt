@@ -1,23 +1,21 @@
 -- Every recovery ends: each call brings it nearer to its end. It leaves nothing loose, is broken off by bad entries alone, and finds no head
 -- only where there is none.
 use mathlib.Core.Path.{_≡_, refl, sym, ap, subst, _∙_}
-use mathlib.Core.Logic.{_≢_}
 use mathlib.Core.List.{List, [], _∷_}
 use mathlib.Core.Bool.{Bool, true, false, cond}
 use mathlib.Core.Option.{Option, some, none}
-use Prim.Native.Nat.{ℕ, zero, suc, _+_, _-_, _*_, _<_, _≤_}
+use Prim.Native.Nat.{ℕ, suc, _+_, _-_, _*_, _<_, _≤_}
 use native.Mathlib.Omega.{arith}
 use lib.ListN.{length, getD}
 use lib.Dec.{eqb, ltb}
 use Rattle.std.proofs.shelf.Tests.{ltb-true, eqb-false}
-use Rattle.disk.specs.declared.error.Kind.{Kind}
-use Rattle.disk.specs.Medium.{Effect, Block, Entry, good, bad, due, later, Medium, size, current}
-use Rattle.head.specs.Head.{Head, encode, decode, empty-head, fits}
+use Rattle.disk.specs.Medium.{Effect, Block, Entry, good, bad, due, later, Medium, current}
+use Rattle.head.specs.Head.{Head, encode, decode, empty-head}
 use Rattle.head.proofs.RoundTrip.{decode-sound}
 use Rattle.journal_law.specs.Device.{bads}
 use Rattle.journal_law.specs.Recovery.{by-entry, Stage, first-flush, read-head, read-slot, write-home, home-flush, write-empty, last-flush, recovered, no-head, failed, Recovery, started, head-write, head-seen, good-call, bad-call, one-call, calls, ended}
 use Rattle.journal_law.specs.Cache.{is-some}
-use Rattle.journal_law.specs.Laws.{Idle-volume, Recovery-idles, Ends-well, Recovery-ends}
+use Rattle.journal_law.specs.Laws.{Recovery-idles, Recovery-ends}
 use Rattle.journal_law.proofs.Media.{Keeps, kept-current, wrote-plan}
 use Rattle.journal_law.proofs.Forms.{Idle}
 use Rattle.journal_law.proofs.Restore.{by-entry-both}

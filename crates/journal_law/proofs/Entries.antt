@@ -1,22 +1,21 @@
 -- Begin, finish and withdraw keep the table.
 use mathlib.Core.Path.{_≡_, refl, sym, ap, subst, _∙_}
-use mathlib.Core.Logic.{_⊎_, inl, inr, ⊎-elim}
 use mathlib.Core.List.{List, [], _∷_, _++_, map}
-use mathlib.Core.Bool.{Bool, true, false, cond, not}
-use mathlib.Core.Option.{Option, some, none}
+use mathlib.Core.Bool.{Bool, true, false, cond}
+use mathlib.Core.Option.{some}
 use Prim.Native.Nat.{ℕ, zero, suc, _+_, _<_, _≤_}
 use native.Mathlib.Omega.{arith}
-use lib.ListN.{length, set}
-use lib.Dec.{eqb, ltb, leb}
+use lib.ListN.{set}
+use lib.Dec.{eqb}
 use Rattle.std.proofs.shelf.Lists.{map-push}
 use Rattle.std.proofs.shelf.Tests.{eqb-true}
 use Rattle.disk.specs.Medium.{Block, Write, lay}
-use Rattle.head.specs.Head.{holds, all-below, none-twice}
+use Rattle.head.specs.Head.{holds}
 use Rattle.journal_law.specs.Cache.{Begun, place-of, begun-place, different, find, without, collect}
 use Rattle.journal_law.specs.Ledger.{laid}
 use Rattle.std.specs.shelf.Lists.{All}
 use Rattle.journal_law.proofs.Media.{All-map, All-push}
-use Rattle.journal_law.proofs.Tables.{Before, Apart, Elsewhere, laid-more, holds-append, lay-collect, holds-collect, once-collect, below-collect, different-mono, find-in, all-without, apart-push, apart-without, apart-found, holds-found, holds-without, fresh-open}
+use Rattle.journal_law.proofs.Tables.{Before, Elsewhere, laid-more, holds-append, lay-collect, holds-collect, once-collect, below-collect, different-mono, find-in, all-without, apart-push, apart-without, apart-found, holds-found, holds-without, fresh-open}
 use Rattle.journal_law.proofs.Invariant.{Table}
 
 -- a place that stands in one of two lists

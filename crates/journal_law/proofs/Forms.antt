@@ -1,18 +1,18 @@
 -- The forms that the medium of a journal volume takes: idle, logged, replayed, cleared; and how a group's disk calls lead from one to
 -- the next. Each form is a rule of `Media`, so it holds whatever a cut drops.
 use mathlib.Core.Path.{_≡_, refl, sym, ap, subst, _∙_}
-use mathlib.Core.Logic.{_⊎_, inl, inr, ⊎-elim}
-use mathlib.Core.List.{List, [], _∷_, _++_, map}
+use mathlib.Core.Logic.{_⊎_, inl, inr}
+use mathlib.Core.List.{List, [], _∷_, map}
 use mathlib.Core.Bool.{Bool, true, false, cond}
-use mathlib.Core.Option.{Option, some, none}
+use mathlib.Core.Option.{some}
 use Prim.Native.Nat.{ℕ, zero, suc, _+_, _<_, _≤_}
 use native.Mathlib.Omega.{arith}
 use lib.ListN.{length, set, getD, drop}
 use lib.Dec.{eqb}
-use Rattle.std.proofs.shelf.Lists.{length-set, getD-set-same, getD-set-other}
-use Rattle.std.proofs.shelf.Tests.{cases-eq, eq-eqb, eqb-true, eqb-false}
-use Rattle.disk.specs.Medium.{Effect, Block, Write, lay, Medium, current, passed, flushed, cut}
-use Rattle.journal_law.proofs.Media.{wrote, Kept, Keeps, Allowed, kept-mono, kept-current, kept-flushed, kept-flush, kept-cut, kept-wrote, current-wrote, length-current, over, over-cases, over-twice, getD-set}
+use Rattle.std.proofs.shelf.Lists.{getD-set-same, getD-set-other}
+use Rattle.std.proofs.shelf.Tests.{eq-eqb}
+use Rattle.disk.specs.Medium.{Effect, Block, Write, Medium, current, flushed, cut}
+use Rattle.journal_law.proofs.Media.{wrote, Keeps, Allowed, kept-current, kept-flushed, kept-wrote, current-wrote, length-current, over, over-twice, getD-set}
 use Rattle.head.specs.Head.{Head, encode, decode, empty-head}
 use Rattle.journal_law.specs.Recovery.{slot-place, head-write}
 use Rattle.journal_law.specs.Cache.{nth, place-of}

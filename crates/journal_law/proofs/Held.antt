@@ -6,26 +6,24 @@ use mathlib.Core.Bool.{Bool, true, false, cond, not}
 use mathlib.Core.Option.{Option, some, none}
 use Prim.Native.Nat.{ℕ, zero, suc, _+_, _<_, _≤_}
 use native.Mathlib.Omega.{arith}
-use lib.ListN.{length, getD}
+use lib.ListN.{length}
 use lib.Dec.{eqb, ltb, leb}
 use Rattle.std.proofs.shelf.Lists.{length-push, length-map}
 use Rattle.std.proofs.shelf.Tests.{eqb-true, not-false, ltb-false, leb-false, eq-eqb, lt-ltb}
 use Rattle.disk.specs.Medium.{Block, Write, Entry, good, bad, due, Medium, size}
 use Rattle.disk.specs.Calls.{Fate, fate, served, failed, wrong-length, wrong-place, by-entry as fate-by}
-use Rattle.errors.specs.declared.CacheCall.{CacheCall}
-use Rattle.errors.specs.declared.VolumeError.{VolumeError}
 use Rattle.errors.specs.declared.CacheError.{CacheError}
 use Rattle.errors.specs.declared.CacheError.the-variants as error
 use Rattle.errors.specs.Errors.{volume-number}
 use Rattle.head.specs.Head.{holds, empty-head}
 use Rattle.head.proofs.Bytes.{length-encode}
 use Rattle.journal_law.specs.Device.{Device}
-use Rattle.journal_law.specs.Cache.{Begun, Phase, slot, slots-flush, head, head-flush, home, homes-flush, empty, empty-flush, Group, Live, Call, begin, finish, withdraw, read, seal, step, restart, Answer, accepted, shown, refused, Outcome, place-of, begun-place, different, decided, begin-refusal, begun, find, without, collect, finished, withdrawn, cached, group-writes, read-shown, read-disk, read-refusal, is-some, seal-refusal, sealed, nth, group-head, phase-call, call-fate, next-phase, in-phase, step-met, stepped, group-restarted, restarted-phase, outcome-in}
+use Rattle.journal_law.specs.Cache.{Begun, Phase, slot, slots-flush, head, head-flush, home, homes-flush, empty, empty-flush, Group, Live, Call, begin, finish, withdraw, read, seal, step, restart, Answer, accepted, shown, refused, Outcome, place-of, begun-place, different, decided, begin-refusal, begun, find, without, collect, finished, withdrawn, cached, group-writes, read-shown, read-disk, read-refusal, is-some, seal-refusal, sealed, nth, group-head, phase-call, call-fate, next-phase, in-phase, step-met, stepped, group-restarted, outcome-in}
 use Rattle.journal_law.specs.Ledger.{Sealing, Under-way, Ledger}
 use Rattle.std.specs.shelf.Lists.{All}
 use Rattle.journal_law.proofs.Media.{All-push}
 use Rattle.journal_law.proofs.Forms.{Names}
-use Rattle.journal_law.proofs.Tables.{some-same, none-some, find-in, all-without}
+use Rattle.journal_law.proofs.Tables.{none-some, find-in, all-without}
 use Rattle.journal_law.proofs.Invariant.{In-phase, State, Invariant}
 use Rattle.journal_law.proofs.Calls.{passed-test, decided-both}
 

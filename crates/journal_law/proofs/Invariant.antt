@@ -1,13 +1,12 @@
 -- What holds of the cache, its medium and the ledger after every list of calls.
-use mathlib.Core.Path.{_≡_, refl, sym, ap, subst, _∙_}
-use mathlib.Core.Logic.{_⊎_, inl, inr, ⊎-elim}
-use mathlib.Core.List.{List, [], _∷_, _++_, map}
-use mathlib.Core.Bool.{Bool, true, false, cond}
+use mathlib.Core.Path.{_≡_}
+use mathlib.Core.List.{List, [], _++_, map}
+use mathlib.Core.Bool.{Bool, true}
 use mathlib.Core.Option.{Option, some, none}
-use Prim.Native.Nat.{ℕ, zero, suc, _+_, _<_, _≤_}
+use Prim.Native.Nat.{ℕ, _+_, _<_, _≤_}
 use lib.ListN.{length, getD}
-use Rattle.disk.specs.Medium.{Block, Write, lay, Medium, current}
-use Rattle.head.specs.Head.{Head, encode, decode, empty-head, all-below, none-twice}
+use Rattle.disk.specs.Medium.{Block, Write, lay, Medium}
+use Rattle.head.specs.Head.{encode, decode, empty-head, all-below, none-twice}
 use Rattle.journal_law.specs.Cache.{Begun, Phase, slot, slots-flush, head, head-flush, home, homes-flush, empty, empty-flush, Group, Live, place-of, begun-place, different}
 use Rattle.journal_law.specs.Ledger.{Sealing, Under-way, Ledger, laid}
 use Rattle.std.specs.shelf.Lists.{All}

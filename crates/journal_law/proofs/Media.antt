@@ -3,15 +3,14 @@
 use mathlib.Core.Path.{_≡_, refl, sym, ap, subst, _∙_}
 use mathlib.Core.Logic.{_⊎_, inl, inr, ⊎-elim}
 use mathlib.Core.List.{List, [], _∷_, _++_}
-use mathlib.Core.Bool.{Bool, true, false, cond, _||_}
-use Prim.Native.Nat.{ℕ, zero, suc, _+_, _/_, _%_, _<_, _≤_}
-use native.Mathlib.Omega.{arith}
+use mathlib.Core.Bool.{Bool, true, false, cond}
+use Prim.Native.Nat.{ℕ, _+_, _/_, _%_, _<_}
 use lib.ListN.{length, set, getD}
-use lib.Dec.{eqb, leb}
+use lib.Dec.{eqb}
 use Rattle.std.proofs.shelf.Lists.{length-set, getD-set-same, getD-set-other}
-use Rattle.std.proofs.shelf.Tests.{cases-eq, eq-eqb, ne-eqb, eqb-true, eqb-false}
+use Rattle.std.proofs.shelf.Tests.{cases-eq, eqb-true, eqb-false}
 use Rattle.std.specs.shelf.Lists.{All}
-use Rattle.disk.specs.Medium.{Effect, Block, Write, lay, Medium, current, later, flushed, joined, settled, join, settle, allowed, take-effect, put, standing, cut}
+use Rattle.disk.specs.Medium.{Effect, Block, Write, lay, Medium, current, later, flushed, join, settle, allowed, take-effect, put, standing, cut}
 
 -- a good write by the disk's own effect
 abbrev pub wrote : Effect → Write → Medium → Medium

@@ -1,23 +1,21 @@
 -- What a good step and a restart make of each phase, and what a cut leaves.
 use mathlib.Core.Path.{_≡_, refl, sym, ap, subst, _∙_}
 use mathlib.Core.Logic.{_⊎_, inl, inr, ⊎-elim}
-use mathlib.Core.List.{List, [], _∷_, _++_, map}
-use mathlib.Core.Bool.{Bool, true, false, cond}
-use mathlib.Core.Option.{Option, some, none}
-use Prim.Native.Nat.{ℕ, zero, suc, _+_, _<_, _≤_}
+use mathlib.Core.List.{List, []}
+use mathlib.Core.Bool.{Bool, true}
+use Prim.Native.Nat.{ℕ, suc, _+_, _<_}
 use native.Mathlib.Omega.{arith}
-use lib.ListN.{length, set, getD, drop}
-use lib.Dec.{eqb, ltb}
-use Rattle.std.proofs.shelf.Tests.{cases-eq, ltb-true, ltb-false, both-ways}
-use Rattle.disk.specs.Medium.{Effect, Block, Write, lay, Medium, current, passed, flushed, cut, standing}
-use Rattle.journal_law.proofs.Media.{wrote, Kept, Keeps, Allowed, kept-mono, kept-current, kept-flushed, kept-cut, kept-wrote, length-current, over}
-use Rattle.head.specs.Head.{Head, encode, decode, empty-head}
+use lib.ListN.{length, getD}
+use Rattle.std.proofs.shelf.Tests.{cases-eq}
+use Rattle.disk.specs.Medium.{Effect, Block, Write, Medium, current, flushed, cut}
+use Rattle.journal_law.proofs.Media.{wrote, Keeps, kept-mono, kept-flushed, kept-cut, kept-wrote, length-current, over}
+use Rattle.head.specs.Head.{encode, empty-head}
 use Rattle.journal_law.specs.Recovery.{slot-place, head-write}
-use Rattle.journal_law.specs.Cache.{Phase, slot, slots-flush, head, head-flush, home, homes-flush, empty, empty-flush, Group, nth, group-head, phase-call, next-phase, restarted-phase, in-phase, good-medium}
-use Rattle.journal_law.specs.Ledger.{Sealing, Under-way, committed-by, in-phase-now, laid}
-use Rattle.journal_law.proofs.Forms.{Region, head-of, Idle, Logged, Replayed, Cleared, Names, Fixed, To-lay, Slots-written, at-head, at-slot, current-same, current-other, replayed-start, replayed-write, replayed-fixed, replayed-flush, cleared-write, cleared-flush}
-use Rattle.journal_law.proofs.Restore.{Sound, idle, replayed, cleared, Recovers, recovers-cut}
-use Rattle.journal_law.proofs.Invariant.{content, Over, In-phase, State}
+use Rattle.journal_law.specs.Cache.{Phase, slot, slots-flush, head, head-flush, home, homes-flush, empty, empty-flush, Group, nth, group-head, restarted-phase}
+use Rattle.journal_law.specs.Ledger.{Sealing}
+use Rattle.journal_law.proofs.Forms.{head-of, Logged, Replayed, Cleared, Names, Slots-written, at-head, at-slot, current-same, current-other, replayed-start}
+use Rattle.journal_law.proofs.Restore.{idle, replayed, cleared, Recovers, recovers-cut}
+use Rattle.journal_law.proofs.Invariant.{content, Over, In-phase}
 
 module _ (n : ℕ) (opening : List Block) (g : Group) (s c : Sealing) (names : Names n (g .number) (g .writes)) where
   -- the rule while the group is being logged

@@ -1,14 +1,14 @@
 -- Recovery: while it runs, every cut leaves a medium that recovers to the same number and blocks; when it succeeds, it answers that
 -- number and leaves those blocks.
 use mathlib.Core.Path.{_≡_, refl, sym, ap, subst, _∙_}
-use mathlib.Core.Logic.{_⊎_, inl, inr, ⊎-elim}
-use mathlib.Core.List.{List, [], _∷_, _++_, map}
+use mathlib.Core.Logic.{_⊎_, inl, inr}
+use mathlib.Core.List.{List, [], _∷_, map}
 use mathlib.Core.Bool.{Bool, true, false, cond}
 use mathlib.Core.Option.{Option, some, none}
-use Prim.Native.Nat.{ℕ, zero, suc, _+_, _<_, _≤_}
+use Prim.Native.Nat.{ℕ, zero, suc, _+_, _<_}
 use native.Mathlib.Omega.{arith}
-use lib.ListN.{length, set, getD, drop}
-use lib.Dec.{eqb, ltb}
+use lib.ListN.{length, getD}
+use lib.Dec.{ltb}
 use Rattle.std.proofs.shelf.Lists.{length-map}
 use Rattle.std.proofs.shelf.Tests.{ne-eqb, ltb-true, ltb-false}
 use Rattle.disk.specs.Medium.{Effect, Block, Write, Entry, good, bad, due, Medium, current, passed, flushed, cut}
@@ -17,7 +17,7 @@ use Rattle.journal_law.specs.Recovery.{by-entry}
 use Rattle.head.specs.Head.{Head, encode, decode, empty-head}
 use Rattle.journal_law.specs.Recovery.{Stage, first-flush, read-head, read-slot, write-home, home-flush, write-empty, last-flush, recovered, no-head, failed, Recovery, started, slot-place, head-write, head-seen, good-call, bad-call, one-call, calls, Broken, maybe-cut, after-broken}
 use Rattle.journal_law.specs.Cache.{nth, place-of}
-use Rattle.journal_law.proofs.Forms.{Region, head-of, Idle, Replayed, Cleared, Names, Fixed, To-lay, replayed-start, replayed-write, replayed-fixed, replayed-flush, cleared-write, cleared-flush, cleared-again}
+use Rattle.journal_law.proofs.Forms.{head-of, Idle, Replayed, Cleared, Names, Fixed, To-lay, replayed-start, replayed-write, replayed-fixed, replayed-flush, cleared-write, cleared-flush, cleared-again}
 
 -- a medium from which recovery answers k and shows t
 pub data Sound (n k : ℕ) (t : ℕ → Block) (firm : List Block) (loose : List Write) : Type 0 where

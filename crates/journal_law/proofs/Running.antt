@@ -4,13 +4,13 @@ use mathlib.Core.Logic.{_≢_}
 use mathlib.Core.List.{List, [], _∷_, _++_}
 use mathlib.Core.Bool.{true, false}
 use mathlib.Core.Option.{Option, some, none}
-use Prim.Native.Nat.{ℕ, zero, suc, _+_, _<_, _≤_}
+use Prim.Native.Nat.{ℕ, _+_, _≤_}
 use native.Mathlib.Omega.{arith}
-use lib.ListN.{length, take, getD}
+use lib.ListN.{length, take}
 use Rattle.std.proofs.shelf.Lists.{append-assoc, append-nil}
 use Rattle.std.proofs.shelf.Tests.{both-ways}
 use Rattle.disk.specs.declared.error.Kind.{Kind}
-use Rattle.disk.specs.Medium.{Effect, Block, Medium, size, current, cut}
+use Rattle.disk.specs.Medium.{Block, Medium, size, current, cut}
 use Rattle.errors.specs.declared.CacheCall.{CacheCall}
 use Rattle.errors.specs.declared.VolumeError.{VolumeError}
 use Rattle.errors.specs.declared.CacheError.the-variants as error
@@ -18,13 +18,13 @@ use Rattle.errors.specs.Errors.{volume-number}
 use Rattle.head.specs.Head.{encode, decode, empty-head}
 use Rattle.head.proofs.RoundTrip.{decode-sound}
 use Rattle.journal_law.specs.Device.{Device, bads}
-use Rattle.journal_law.specs.Recovery.{Stage, first-flush, read-head, read-slot, write-home, home-flush, write-empty, last-flush, recovered, no-head, failed, Broken, started, calls, after-broken, ended}
-use Rattle.journal_law.specs.Cache.{Live, Group, Call, read, Answer, refused, shown, Event, outcome, outcome-in, opened, group-writes, is-some}
+use Rattle.journal_law.specs.Recovery.{Stage, first-flush, read-head, read-slot, write-home, home-flush, write-empty, last-flush, recovered, no-head, failed, started, calls, after-broken, ended}
+use Rattle.journal_law.specs.Cache.{Live, Group, Call, read, Answer, refused, Event, outcome, outcome-in, opened, group-writes, is-some}
 use Rattle.journal_law.specs.Ledger.{Under-way, Ledger, Sealing, opening-ledger, note, replay}
-use Rattle.journal_law.specs.Laws.{Just-recovered, event-of, Ran, no-call, one-more, Fails-at, between, within, Safe, Succeeds, calls-left, step-count, steps, Is-restart, No-restart, Bounds, Laws, Runs-on, Lawful-runs}
-use Rattle.journal_law.proofs.Media.{Keeps, kept-current}
-use Rattle.journal_law.proofs.Forms.{Idle, Names}
-use Rattle.journal_law.proofs.Restore.{Recovers, At, calls-hold, broken-recovers}
+use Rattle.journal_law.specs.Laws.{Just-recovered, event-of, Ran, no-call, one-more, Fails-at, between, within, Safe, Succeeds, calls-left, step-count, steps, Is-restart, No-restart, Laws, Runs-on, Lawful-runs}
+use Rattle.journal_law.proofs.Media.{Keeps}
+use Rattle.journal_law.proofs.Forms.{Idle}
+use Rattle.journal_law.proofs.Restore.{At, calls-hold, broken-recovers}
 use Rattle.journal_law.proofs.Start.{fits-parts, found}
 use Rattle.journal_law.proofs.Tables.{some-same}
 use Rattle.journal_law.proofs.Invariant.{content, State, Invariant}

@@ -1,22 +1,21 @@
 -- A recovery that succeeds on any medium of the right size leaves an idle volume of the number that it answered.
 use mathlib.Core.Path.{_≡_, refl, sym, ap, subst, _∙_}
-use mathlib.Core.Logic.{_⊎_, inl, inr, ⊎-elim}
-use mathlib.Core.List.{List, [], _∷_, _++_, map}
-use mathlib.Core.Bool.{Bool, true, false, cond, _&&_, not}
+use mathlib.Core.Logic.{_⊎_, inl, inr}
+use mathlib.Core.List.{List, [], _∷_, map}
+use mathlib.Core.Bool.{Bool, true, false, cond, _&&_}
 use mathlib.Core.Option.{Option, some, none}
 use Prim.Native.Nat.{ℕ, zero, suc, _+_, _<_, _≤_}
 use native.Mathlib.Omega.{arith}
-use lib.ListN.{length, set, getD, drop}
+use lib.ListN.{length, getD}
 use lib.Dec.{eqb, ltb, leb}
 use Rattle.std.proofs.shelf.Lists.{length-map, nil-from-length}
 use Rattle.std.proofs.shelf.Tests.{eqb-true, eqb-false, ltb-true, lt-ltb, leb-true, le-leb, and-parts, and-from}
-use Rattle.disk.specs.Medium.{Effect, Block, Write, lay, Entry, due, Medium, current, passed, flushed, cut}
-use Rattle.std.specs.shelf.Lists.{All}
-use Rattle.journal_law.proofs.Media.{wrote, Allowed, Kept, Keeps, kept-current, over, length-lay}
+use Rattle.disk.specs.Medium.{Effect, Block, Write, lay, due, Medium, current, passed}
+use Rattle.journal_law.proofs.Media.{Kept, Keeps, over, length-lay}
 use Rattle.head.specs.Head.{Head, encode, decode, empty-head, fits, all-below, none-twice}
 use Rattle.journal_law.specs.Recovery.{Stage, first-flush, read-head, read-slot, write-home, home-flush, write-empty, last-flush, recovered, no-head, failed, Recovery, started, slot-place, head-seen, good-call, bad-call, one-call, calls}
 use Rattle.journal_law.specs.Cache.{nth, place-of}
-use Rattle.journal_law.proofs.Forms.{Region, head-of, Idle, Replayed, Names, To-lay, replayed-start}
+use Rattle.journal_law.proofs.Forms.{head-of, Idle, Replayed, Names, replayed-start}
 use Rattle.head.proofs.RoundTrip.{decode-encode, decode-sound}
 use Rattle.journal_law.proofs.Restore.{At, call-holds, by-entry-both, getD-places}
 

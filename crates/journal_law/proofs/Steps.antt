@@ -1,22 +1,21 @@
 -- A good step in each phase.
 use mathlib.Core.Path.{_≡_, refl, sym, ap, subst, _∙_}
-use mathlib.Core.Logic.{_⊎_, inl, inr, ⊎-elim}
-use mathlib.Core.List.{List, [], _∷_, _++_, map}
+use mathlib.Core.List.{List, []}
 use mathlib.Core.Bool.{Bool, true, false, cond}
 use mathlib.Core.Option.{Option, some, none}
-use Prim.Native.Nat.{ℕ, zero, suc, _+_, _<_, _≤_}
+use Prim.Native.Nat.{ℕ, suc, _+_}
 use native.Mathlib.Omega.{arith}
 use lib.ListN.{length, getD}
 use lib.Dec.{ltb}
 use Rattle.std.proofs.shelf.Tests.{ltb-true, ltb-false}
-use Rattle.disk.specs.Medium.{Effect, Block, Write, lay, Medium, current, passed, flushed}
-use Rattle.journal_law.proofs.Media.{wrote, Kept, Keeps}
-use Rattle.head.specs.Head.{Head, encode, decode, empty-head}
+use Rattle.disk.specs.Medium.{Effect, Block, Write, Medium, current, flushed}
+use Rattle.journal_law.proofs.Media.{wrote, Keeps}
+use Rattle.head.specs.Head.{encode, decode, empty-head}
 use Rattle.journal_law.specs.Recovery.{slot-place, head-write}
-use Rattle.journal_law.specs.Cache.{Begun, Phase, slot, slots-flush, head, head-flush, home, homes-flush, empty, empty-flush, Group, nth, group-head, phase-call, next-phase, in-phase, good-medium}
-use Rattle.journal_law.specs.Ledger.{Sealing, Under-way, committed-by, in-phase-now, laid}
-use Rattle.journal_law.proofs.Forms.{Idle, Logged, Replayed, Cleared, Names, Fixed, To-lay, Slots-written, replayed-start, replayed-write, replayed-fixed, replayed-flush, cleared-write, cleared-flush}
-use Rattle.journal_law.proofs.Invariant.{content, Over, In-phase, State, last-sealed}
+use Rattle.journal_law.specs.Cache.{Phase, slot, slots-flush, head, head-flush, home, homes-flush, empty, empty-flush, Group, nth, group-head, phase-call, next-phase, in-phase, good-medium}
+use Rattle.journal_law.specs.Ledger.{Sealing, Under-way, committed-by, in-phase-now}
+use Rattle.journal_law.proofs.Forms.{Idle, Replayed, Cleared, Names, To-lay, Slots-written, replayed-start, replayed-write, replayed-fixed, replayed-flush, cleared-write, cleared-flush}
+use Rattle.journal_law.proofs.Invariant.{content, In-phase, State, last-sealed}
 use Rattle.journal_law.proofs.Phases.{Log, slot-done, slots-flushed, head-written, head-flushed}
 
 -- a phase asks for the group's number and writes alone

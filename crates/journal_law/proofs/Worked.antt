@@ -1,5 +1,5 @@
 -- The worked cases, computed.
-use mathlib.Core.Path.{_≡_, refl}
+use mathlib.Core.Path.{refl}
 use Rattle.head.specs.Head.{encode, decode, candidate}
 use Rattle.journal_law.specs.Known.{Known-journal, Worked-run}
 

@@ -16,7 +16,7 @@ use Rattle.errors.specs.declared.CacheCall.the-variants as during
 use Rattle.errors.specs.declared.CacheError.{CacheError}
 use Rattle.errors.specs.declared.CacheError.the-variants as error
 use Rattle.errors.specs.Errors.{during-call}
-use Rattle.head.specs.Head.{Head, encode, empty-head, holds}
+use Rattle.head.specs.Head.{Head, empty-head, holds}
 use Rattle.journal_law.specs.Device.{Device}
 use Rattle.journal_law.specs.Recovery.{slot-place, head-write}
 

@@ -1,11 +1,10 @@
 -- Worked cases of the journal's definitions.
 use mathlib.Core.Path.{_≡_}
 use mathlib.Core.List.{List, [], _∷_}
-use mathlib.Core.Bool.{Bool, true, false}
-use mathlib.Core.Option.{Option, some, none}
+use mathlib.Core.Option.{some, none}
 use Prim.Native.Nat.{ℕ, zero, suc}
 use lib.ListN.{replicate, take}
-use Rattle.disk.specs.Medium.{Block, Write, Effect, join, Medium, current, cut}
+use Rattle.disk.specs.Medium.{Block, join, Medium, current, cut}
 use Rattle.errors.specs.declared.CacheError.the-variants as error
 use Rattle.head.specs.Head.{Head, encode, decode, empty-head}
 use Rattle.journal_law.specs.Device.{Device}

@@ -3,8 +3,8 @@ use mathlib.Core.Path.{_≡_}
 use mathlib.Core.Logic.{_⊎_, _≢_}
 use mathlib.Core.List.{List, [], _∷_, _++_, map}
 use mathlib.Core.Bool.{true}
-use mathlib.Core.Option.{Option, some, none}
-use Prim.Native.Nat.{ℕ, zero, suc, _+_, _-_, _*_, _≤_, _<_}
+use mathlib.Core.Option.{some, none}
+use Prim.Native.Nat.{ℕ, _+_, _-_, _*_, _≤_, _<_}
 use lib.ListN.{length, take, getD}
 use Rattle.disk.specs.Medium.{Block, Effect, Medium, size, current, cut}
 use Rattle.disk.specs.declared.error.Kind.{Kind}
@@ -14,7 +14,7 @@ use Rattle.errors.specs.declared.CacheError.the-variants as error
 use Rattle.errors.specs.Errors.{volume-number}
 use Rattle.head.specs.Head.{Head, encode, decode, empty-head, fits}
 use Rattle.journal_law.specs.Device.{Device, bads}
-use Rattle.journal_law.specs.Recovery.{Stage, recovered, no-head, failed, Recovery, started, calls, ended, Broken, after-broken}
+use Rattle.journal_law.specs.Recovery.{recovered, no-head, failed, started, calls, ended, Broken, after-broken}
 use Rattle.journal_law.specs.Cache.{Phase, slot, slots-flush, head, head-flush, home, homes-flush, empty, empty-flush, Live, Call, begin, finish, withdraw, read, seal, step, restart, Answer, shown, refused, Event, outcome, opened, place-of, begun-place, different, group-writes, is-some}
 use Rattle.journal_law.specs.Ledger.{Sealing, Under-way, Ledger, opening-ledger, replay, laid}
 

@@ -1,6 +1,6 @@
 -- How a recovery ended, and what its end restores.
 use mathlib.Core.Path.{_≡_, refl, sym, ap, subst, _∙_}
-use mathlib.Core.Logic.{_⊎_, _≢_, inl, inr, ⊎-elim}
+use mathlib.Core.Logic.{_⊎_, _≢_, ⊎-elim}
 use mathlib.Core.List.{List, [], _∷_, _++_}
 use mathlib.Core.Bool.{true, false}
 use mathlib.Core.Option.{Option as Maybe, some, none}
@@ -14,7 +14,7 @@ use Rattle.std.proofs.shelf.Lists.{length-replicate}
 use Rattle.std.proofs.shelf.Tests.{both-ways, cases-lt}
 use Rattle.disk.specs.declared.error.Kind.{Kind}
 use Rattle.disk.specs.declared.error.DiskError.{DiskError}
-use Rattle.disk.specs.Medium.{Block, Write, Effect, Entry, good, bad, Medium, size, due, current, standing, cut}
+use Rattle.disk.specs.Medium.{Write, Effect, Entry, good, bad, Medium, size, due, standing, cut}
 use Rattle.disk.specs.Calls.{number}
 use Rattle.errors.specs.declared.VolumeError.{VolumeError}
 use Rattle.errors.specs.declared.VolumeError.the-variants as volume

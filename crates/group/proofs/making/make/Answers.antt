@@ -1,22 +1,18 @@
-use borrow.Author.Needs.{needs}
 use denote.Ref.{now}
-use mathlib.Core.Path.{_≡_, refl, sym, ap, subst, _∙_}
+use mathlib.Core.Path.{_≡_, sym, ap, subst, _∙_}
 use mathlib.Core.Bool.{true}
 use native.Mathlib.Omega.{arith}
-use Prim.Native.Nat.{ℕ, suc, _+_, _<_}
-use lib.ListN.{length, getD}
+use Prim.Native.Nat.{suc, _+_, _<_}
+use lib.ListN.{length}
 use Rattle.std.proofs.shelf.Lists.{length-take-le}
 use Rattle.std.proofs.shelf.Tests.{ltb-true}
 use Rattle.disk.specs.Medium.{Write}
 use Rattle.journal_law.specs.Cache.{nth, phase-call}
-use Rattle.journal_law.specs.Recovery.{head-write}
-use Rattle.head.specs.Head.{encode, empty-head}
 use Rattle.batch.specs.declared.entry.Entry.{Entry}
-use Rattle.batch.specs.Rows.{no-entry, entries, write-in, write-list}
+use Rattle.batch.specs.Rows.{entries, write-in, write-list}
 use Rattle.group.specs.Groups.{group-of, Makes}
 use Rattle.group.specs.Phases.{in-turn, phase-of}
 use Rattle.group.specs.declared.phase.Phase.{Phase}
-use Rattle.group.specs.declared.phase.Phase.the-variants as phase
 use Rattle.group.proofs.Calling.{write-made, nth-entry}
 use Rattle.group.proofs.making.make.Needs as need
 

@@ -1,7 +1,7 @@
 use mathlib.Core.Path.{_≡_, refl, subst, _∙_}
 use native.Mathlib.Omega.{arith}
-use Prim.Native.Nat.{_+_, _*_, _<_}
-use lib.ListN.{length, getD, take, drop}
+use Prim.Native.Nat.{_+_, _*_}
+use lib.ListN.{getD, take, drop}
 use Rattle.std.proofs.shelf.Lists.{length-set}
 use Rattle.head.specs.Head.{places-read}
 use Rattle.head.proofs.Bytes.{placed, candidate-is}
@@ -19,4 +19,4 @@ pub returns : need.returns
 returns c =
     let block = c .args .block .now in
     let all : c .loop-i .i ≡ getD block 5 0 = omega arith in
-    candidate-is _ block refl (subst (λ k. take k (c .loop-i .places) ≡ places-read k (drop 6 block)) all (c .loop-i .inv .0))
+    c .new .ensures .value ∙ candidate-is _ block refl (subst (λ k. take k (c .loop-i .places) ≡ places-read k (drop 6 block)) all (c .loop-i .inv .0))

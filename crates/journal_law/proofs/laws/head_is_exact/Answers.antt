@@ -1,9 +1,8 @@
-use mathlib.Core.Path.{_≡_, refl, sym, ap, subst, _∙_}
+use mathlib.Core.Path.{_≡_, sym, subst}
 use mathlib.Core.Option.{some}
 use native.Mathlib.Omega.{arith}
-use Prim.Native.Nat.{_≤_}
 use Rattle.disk.specs.Medium.{Block}
-use Rattle.head.specs.Head.{decode, encode}
+use Rattle.head.specs.Head.{decode}
 use Rattle.head.proofs.RoundTrip.{decode-encode, decode-sound}
 use Rattle.journal_law.proofs.laws.head_is_exact.Needs as need
 

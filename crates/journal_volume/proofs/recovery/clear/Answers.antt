@@ -1,7 +1,7 @@
-use mathlib.Core.Path.{_≡_, refl, sym, ap, subst, _∙_}
+use mathlib.Core.Path.{_≡_, refl, ap, _∙_}
 use mathlib.Core.List.{[]}
 use native.Mathlib.Omega.{arith}
-use Prim.Native.Nat.{_+_, _<_}
+use Prim.Native.Nat.{_<_}
 use lib.ListN.{length}
 use Rattle.std.specs.declared.result.Result.the-variants.{Ok, Err}
 use Rattle.std.proofs.shelf.Results.{err-from-errBy}
@@ -10,8 +10,8 @@ use Rattle.head.specs.Head.{encode, empty-head}
 use Rattle.head.specs.Codes.{head-of}
 use Rattle.head.proofs.Bytes.{length-encode}
 use Rattle.journal_law.specs.Recovery.{home-flush, write-empty, last-flush, recovered}
-use Rattle.journal_volume.specs.Recovering.{at, Of-rule, Leads, Goes}
-use Rattle.journal_volume.proofs.Going.{goes-on, leads-on, leads-size, handed-up, home-flush-goes, write-empty-goes, last-flush-goes}
+use Rattle.journal_volume.specs.Recovering.{at, Of-rule, Leads}
+use Rattle.journal_volume.proofs.Going.{goes-on, leads-size, handed-up, home-flush-goes, write-empty-goes, last-flush-goes}
 use Rattle.journal_volume.proofs.recovery.clear.Needs as need
 
 pub returns-in-Break-flush : need.returns-in-Break-flush

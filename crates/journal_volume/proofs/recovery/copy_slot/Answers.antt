@@ -1,16 +1,16 @@
 use borrow.Author.Needs.{needs}
-use mathlib.Core.Path.{_≡_, refl, sym, ap, subst, _∙_}
+use mathlib.Core.Path.{_≡_, refl}
 use mathlib.Core.List.{[]}
 use native.Mathlib.Omega.{arith}
 use Prim.Native.Nat.{_+_, _<_}
-use lib.ListN.{length, getD, replicate}
+use lib.ListN.{length, replicate}
 use Rattle.std.specs.declared.result.Result.the-variants.{Ok, Err}
 use Rattle.std.proofs.shelf.Lists.{length-take-le}
 use Rattle.std.proofs.shelf.Results.{err-from-errBy}
 use Rattle.disk.specs.Medium.{Write, Effect, size}
 use Rattle.head.specs.Codes.{head-of}
 use Rattle.journal_law.specs.Recovery.{read-slot, write-home, slot-place}
-use Rattle.journal_volume.specs.Recovering.{at, turn, Of-rule, Leads, Goes}
+use Rattle.journal_volume.specs.Recovering.{at, turn, Of-rule, Leads}
 use Rattle.journal_volume.proofs.Going.{goes-on, leads-size, handed-up, place-below, read-slot-goes, write-home-goes}
 use Rattle.journal_volume.proofs.recovery.copy_slot.Needs as need
 

@@ -1,12 +1,11 @@
-use mathlib.Core.Path.{_≡_, refl, sym, ap, subst, _∙_}
+use mathlib.Core.Path.{refl, sym, subst, _∙_}
 use mathlib.Core.List.{[]}
 use native.Mathlib.Omega.{arith}
 use Prim.Native.Nat.{_+_, _<_, _≤_}
 use lib.ListN.{length}
-use Rattle.std.specs.declared.result.Result.the-variants.{Ok, Err}
+use Rattle.std.specs.declared.result.Result.the-variants.{Err}
 use Rattle.std.proofs.shelf.Results.{err-from-errBy}
-use Rattle.disk.specs.Medium.{size}
-use Rattle.journal_law.specs.Recovery.{read-slot, home-flush}
+use Rattle.journal_law.specs.Recovery.{home-flush}
 use Rattle.head.specs.Codes.{head-of}
 use Rattle.journal_volume.specs.Recovering.{at, Of-rule, turn, Leads, Goes}
 use Rattle.journal_volume.proofs.Going.{goes-on, leads-on, leads-size, handed-up, turn-on, turn-end}

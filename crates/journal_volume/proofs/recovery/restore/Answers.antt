@@ -1,13 +1,12 @@
-use mathlib.Core.Path.{_≡_, refl, sym, ap, subst, _∙_}
+use mathlib.Core.Path.{_≡_, refl, sym, subst, _∙_}
 use mathlib.Core.List.{[]}
 use native.Mathlib.Omega.{arith}
-use Prim.Native.Nat.{_+_, _<_, _≤_}
+use Prim.Native.Nat.{_<_}
 use lib.ListN.{length}
-use Rattle.std.specs.declared.result.Result.the-variants.{Ok, Err}
 use Rattle.std.proofs.shelf.Results.{err-from-errBy}
-use Rattle.journal_law.specs.Recovery.{read-slot, home-flush, recovered}
+use Rattle.journal_law.specs.Recovery.{home-flush, recovered}
 use Rattle.head.specs.Codes.{head-of}
-use Rattle.journal_volume.specs.Recovering.{at, Of-rule, turn, seen-stage, Leads, Goes}
+use Rattle.journal_volume.specs.Recovering.{at, Of-rule, turn, Leads, Goes}
 use Rattle.journal_volume.proofs.Going.{goes-on, leads-size, handed-up, seen-none, seen-some}
 use Rattle.journal_volume.proofs.recovery.restore.Needs as need
 

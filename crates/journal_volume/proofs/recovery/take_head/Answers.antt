@@ -1,15 +1,14 @@
-use mathlib.Core.Path.{_≡_, refl, sym, ap, subst, _∙_}
+use mathlib.Core.Path.{refl, sym, ap, subst, _∙_}
 use native.Mathlib.Omega.{arith}
-use Prim.Native.Nat.{_+_, _<_}
-use lib.ListN.{length, replicate}
+use Prim.Native.Nat.{_<_}
+use lib.ListN.{replicate}
 use Rattle.std.specs.declared.result.Result.the-variants.{Ok, Err}
 use Rattle.std.proofs.shelf.Results.{err-from-errBy}
 use mathlib.Core.List.{[]}
 use Rattle.disk.specs.Medium.{Write, Effect, size}
 use Rattle.head.specs.Head.{decode}
 use Rattle.journal_law.specs.Recovery.{started, read-head, head-seen}
-use Rattle.head.specs.Codes.{found}
-use Rattle.journal_volume.specs.Recovering.{at, Of-rule, Leads, Goes, Sees}
+use Rattle.journal_volume.specs.Recovering.{at, Of-rule, Leads, Sees}
 use Rattle.journal_volume.proofs.Going.{goes-on, leads-on, leads-size, first-flush-goes, read-head-goes}
 use Rattle.journal_volume.proofs.recovery.take_head.Needs as need
 

@@ -1,11 +1,6 @@
-use borrow.Author.Needs.{needs}
-use mathlib.Core.Path.{_≡_, refl, sym, ap, _∙_}
+use mathlib.Core.Path.{refl, sym, ap, _∙_}
 use mathlib.Core.List.{map}
-use mathlib.Core.Bool.{false}
-use native.Mathlib.Omega.{arith}
-use lib.ListN.{length}
 use Rattle.std.specs.Options.{isSome}
-use Rattle.std.proofs.shelf.Lists.{take-set-le}
 use Rattle.batch.specs.Rows.{entries, write-in}
 use Rattle.batch.proofs.Rowing.{holds-by, collect-some, collect-none, take-set-within}
 use Rattle.batch.proofs.rows.Batch.collect.Needs as need

@@ -1,4 +1,4 @@
-use mathlib.Core.Path.{_≡_, sym}
+use mathlib.Core.Path.{sym}
 use Rattle.std.proofs.shelf.Lists.{getD-take}
 use Rattle.batch.specs.Rows.{no-entry}
 use Rattle.batch.proofs.rows.Batch.entry.Needs as need

@@ -1,4 +1,4 @@
-use mathlib.Core.Path.{_≡_, refl, sym, ap, _∙_}
+use mathlib.Core.Path.{sym, ap, _∙_}
 use Rattle.std.specs.Options.{isSome}
 use Rattle.batch.specs.Rows.{entries}
 use Rattle.batch.proofs.Rowing.{holds-by}

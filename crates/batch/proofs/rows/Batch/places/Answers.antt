@@ -1,7 +1,7 @@
-use mathlib.Core.Path.{_≡_, refl, sym, ap, subst, _∙_}
+use mathlib.Core.Path.{_≡_, sym, ap, subst, _∙_}
 use mathlib.Core.List.{_∷_, [], _++_, map}
 use native.Mathlib.Omega.{arith}
-use lib.ListN.{length, take, getD}
+use lib.ListN.{take, getD}
 use Rattle.std.proofs.shelf.Lists.{length-set, take-more, take-more-set, map-push}
 use Rattle.batch.specs.Rows.{no-entry, place-in}
 use Rattle.batch.proofs.rows.Batch.places.Needs as need

@@ -1,6 +1,5 @@
-use mathlib.Core.Path.{_≡_, refl, sym, ap, _∙_}
+use mathlib.Core.Path.{_≡_, sym, ap, _∙_}
 use native.Mathlib.Omega.{arith}
-use Prim.Native.Nat.{_<_, _≤_}
 use lib.ListN.{length, getD}
 use Rattle.std.proofs.shelf.Lists.{length-take-le, getD-take}
 use Rattle.batch.specs.Rows.{no-entry, entries, test}

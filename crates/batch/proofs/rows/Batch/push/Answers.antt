@@ -1,6 +1,4 @@
-use mathlib.Core.Path.{_≡_, refl}
 use native.Mathlib.Omega.{arith}
-use lib.ListN.{length}
 use Rattle.std.proofs.shelf.Lists.{take-more-set, length-take-le}
 use Rattle.batch.proofs.rows.Batch.push.Needs as need
 

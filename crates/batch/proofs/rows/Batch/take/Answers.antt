@@ -1,14 +1,13 @@
-use borrow.Author.Needs.{needs}
-use mathlib.Core.Path.{_≡_, refl, sym, ap, _∙_}
+use mathlib.Core.Path.{_≡_, sym, ap, _∙_}
 use mathlib.Core.Option.{some}
 use native.Mathlib.Omega.{arith}
-use Prim.Native.Nat.{ℕ, _+_, _-_, _<_, _≤_}
+use Prim.Native.Nat.{_+_, _-_, _<_}
 use lib.ListN.{length, getD, take}
 use Rattle.std.specs.Options.{mapped}
 use Rattle.std.proofs.shelf.Lists.{getD-take, length-take-le}
 use Rattle.batch.specs.declared.entry.Entry.{Entry}
 use Rattle.batch.specs.Options.{maybe}
-use Rattle.batch.specs.Rows.{no-entry, entries, begun-in, begun-list}
+use Rattle.batch.specs.Rows.{no-entry, entries, begun-in}
 use Rattle.batch.proofs.Rowing.{find-none, find-some, without-none, without-some}
 use Rattle.batch.proofs.rows.Batch.take.Needs as need
 

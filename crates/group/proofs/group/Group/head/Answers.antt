@@ -1,10 +1,9 @@
-use mathlib.Core.Path.{_≡_, refl, sym, ap, _∙_}
+use mathlib.Core.Path.{_≡_, sym, ap, _∙_}
 use mathlib.Core.List.{List}
 use native.Mathlib.Omega.{arith}
 use Prim.Native.Nat.{ℕ}
-use lib.ListN.{length, take}
+use lib.ListN.{take}
 use Rattle.std.proofs.shelf.Lists.{length-take-le}
-use Rattle.head.specs.Head as model
 use Rattle.batch.specs.Rows.{entries, place-list}
 use Rattle.group.proofs.Calling.{entry-places}
 use Rattle.group.proofs.group.Group.head.Needs as need

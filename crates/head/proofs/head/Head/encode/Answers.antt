@@ -1,8 +1,8 @@
 use mathlib.Core.Path.{_≡_, refl, ap, subst, sym, _∙_}
 use mathlib.Core.Option.{some}
 use native.Mathlib.Omega.{arith}
-use Prim.Native.Nat.{_+_, _*_, _<_, _/_, _%_}
-use lib.ListN.{length, getD, set}
+use Prim.Native.Nat.{_+_, _*_, _/_, _%_}
+use lib.ListN.{getD, set}
 use Rattle.head.specs.Head.{encode, decode}
 use Rattle.head.proofs.RoundTrip.{decode-encode}
 use Rattle.head.specs.Codes.{head-of}

@@ -1,7 +1,7 @@
 use mathlib.Core.Path.{_≡_, sym, ap, _∙_}
 use mathlib.Core.Bool.{_&&_, true}
 use native.Mathlib.Omega.{arith}
-use Prim.Native.Nat.{_≤_, _<_}
+use Prim.Native.Nat.{_≤_}
 use lib.ListN.{length, take}
 use Rattle.std.proofs.shelf.Lists.{length-take-le}
 use Rattle.head.specs.Head.{all-below, none-twice}

@@ -1,15 +1,13 @@
-use borrow.Author.Needs.{needs}
-use mathlib.Core.Path.{_≡_, refl, sym, ap, subst, _∙_}
-use mathlib.Core.Bool.{Bool, true, false, cond}
+use mathlib.Core.Path.{_≡_, sym, ap, subst, _∙_}
+use mathlib.Core.Bool.{true, false}
 use mathlib.Core.List.{List, [], _∷_, _++_, map}
 use native.Mathlib.Omega.{arith}
-use Prim.Native.Nat.{ℕ, _+_, _≤_, _<_}
+use Prim.Native.Nat.{_+_, _≤_}
 use lib.ListN.{length}
 use Rattle.std.proofs.shelf.Ways.{tells}
 use Rattle.std.proofs.shelf.Lists.{length-map, length-take-le, length-push, map-push}
-use Rattle.std.proofs.shelf.Tests.{ltb-false}
 use Rattle.head.specs.Head.{holds, all-below, none-twice}
-use Rattle.journal_law.specs.Cache.{Begun, begin, accepted, place-of, begun-place, different}
+use Rattle.journal_law.specs.Cache.{Begun, begin, place-of, begun-place, different}
 use Rattle.journal_law.proofs.Entries.{room-begin}
 use Rattle.batch.specs.declared.entry.Entry.{Entry}
 use Rattle.batch.specs.Rows.{entries, begun-in, begun-list, write-list}

@@ -1,8 +1,5 @@
-use borrow.Author.Needs.{needs}
-use mathlib.Core.Path.{_≡_, refl, sym, ap, subst, _∙_}
-use mathlib.Core.Bool.{true, false}
-use mathlib.Core.List.{List, [], _++_}
-use mathlib.Core.Option.{some, none}
+use mathlib.Core.Path.{sym, ap, _∙_}
+use mathlib.Core.Option.{none}
 use Rattle.journal_law.specs.Cache.{cached, group-writes}
 use Rattle.batch.specs.Options.{maybe}
 use Rattle.batch.specs.Rows.{write-list}

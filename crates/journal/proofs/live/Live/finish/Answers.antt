@@ -1,10 +1,9 @@
-use borrow.Author.Needs.{needs}
-use mathlib.Core.Path.{_≡_, refl, sym, ap, subst, subst₂, _∙_}
-use mathlib.Core.Bool.{true, false}
+use mathlib.Core.Path.{_≡_, sym, ap, subst, subst₂, _∙_}
+use mathlib.Core.Bool.{true}
 use mathlib.Core.List.{List, _++_, map}
-use mathlib.Core.Option.{some, none}
+use mathlib.Core.Option.{some}
 use native.Mathlib.Omega.{arith}
-use Prim.Native.Nat.{ℕ, suc, _+_, _≤_, _<_}
+use Prim.Native.Nat.{_+_, _≤_, _<_}
 use lib.ListN.{length}
 use Rattle.std.proofs.shelf.Lists.{length-map, length-take-le}
 use Rattle.disk.specs.Medium.{Write}
@@ -13,7 +12,7 @@ use Rattle.journal_law.specs.Cache.{Begun, finish, place-of, begun-place, diffe
 use Rattle.journal_law.proofs.Tables.{holds-found, below-collect, once-collect}
 use Rattle.journal_law.proofs.Held.{length-without}
 use Rattle.journal_law.proofs.Entries.{room-finish}
-use Rattle.batch.specs.Rows.{entries, begun-in, write-in, begun-list, write-list, place-list}
+use Rattle.batch.specs.Rows.{entries, begun-in, write-in, begun-list, write-list}
 use Rattle.group.proofs.Calling.{entry-places}
 use Rattle.journal.specs.Model.{model, met}
 use Rattle.journal.proofs.Rooms.{room-collect, below-without, once-without, below-held}

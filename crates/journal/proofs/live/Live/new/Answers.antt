@@ -1,5 +1,4 @@
-use borrow.Author.Needs.{needs}
-use mathlib.Core.Path.{_≡_, refl, sym, ap, subst, _∙_}
+use mathlib.Core.Path.{_≡_, refl, ap, _∙_}
 use mathlib.Core.List.{List, [], _++_, map}
 use native.Mathlib.Omega.{arith}
 use Prim.Native.Nat.{_≤_, _-_}
@@ -9,7 +8,6 @@ use Rattle.disk.specs.Medium.{Write}
 use Rattle.head.specs.Head.{all-below, none-twice}
 use Rattle.journal_law.specs.Cache.{Begun, place-of, begun-place, different}
 use Rattle.batch.specs.Rows.{entries, begun-in, write-in, begun-list, write-list}
-use Rattle.journal.specs.Model.{model}
 use Rattle.journal.proofs.Rooms.{different-none}
 use Rattle.journal.proofs.Outcomes.{just-made}
 use Rattle.journal.proofs.live.Live.new.Needs as need

@@ -1,14 +1,13 @@
-use borrow.Author.Needs.{needs}
-use mathlib.Core.Path.{_≡_, refl, sym, ap, subst, _∙_}
-use mathlib.Core.Bool.{Bool, true, false, cond}
+use mathlib.Core.Path.{_≡_, sym, ap, _∙_}
+use mathlib.Core.Bool.{true, false}
 use mathlib.Core.List.{map}
 use native.Mathlib.Omega.{arith}
-use Prim.Native.Nat.{ℕ, _+_, _≤_}
+use Prim.Native.Nat.{_≤_}
 use lib.ListN.{length}
 use Rattle.std.proofs.shelf.Lists.{length-map, length-take-le}
 use Rattle.head.specs.Head.{holds}
-use Rattle.journal_law.specs.Cache.{place-of, begun-place, different}
-use Rattle.batch.specs.Rows.{entries, place-in, write-in, begun-in, place-list, write-list, begun-list, outside}
+use Rattle.journal_law.specs.Cache.{place-of, begun-place}
+use Rattle.batch.specs.Rows.{entries, place-in, write-in, place-list, write-list, begun-list, outside}
 use Rattle.group.proofs.Calling.{entry-places}
 use Rattle.journal.proofs.Rooms.{begun-places, outside-le, room-is}
 use Rattle.journal.proofs.live.Live.places_with.Needs as need

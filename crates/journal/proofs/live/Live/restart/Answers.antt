@@ -1,6 +1,4 @@
-use borrow.Author.Needs.{needs}
-use mathlib.Core.Path.{_≡_, refl, sym, ap, _∙_}
-use Rattle.std.specs.declared.option.Option.the-variants.{Some, None}
+use mathlib.Core.Path.{ap}
 use Rattle.journal_law.specs.Cache.{restart}
 use Rattle.group.specs.Groups.{under-way}
 use Rattle.journal.specs.Model.{model, met}

@@ -1,16 +1,15 @@
-use borrow.Author.Needs.{needs}
-use mathlib.Core.Path.{_≡_, refl, sym, ap, subst, _∙_}
+use mathlib.Core.Path.{_≡_, sym, ap, subst, _∙_}
 use mathlib.Core.Bool.{true, false}
 use mathlib.Core.List.{List, [], _++_, map}
 use native.Mathlib.Omega.{arith}
-use Prim.Native.Nat.{_+_, _≤_, _<_}
+use Prim.Native.Nat.{_+_, _≤_}
 use lib.ListN.{length}
-use lib.Dec.{eqb, leb, ltb}
+use lib.Dec.{eqb}
 use Rattle.std.proofs.shelf.Lists.{length-map, length-take-le}
 use Rattle.std.proofs.shelf.Tests.{eq-eqb, ne-eqb, le-leb, lt-leb, lt-ltb}
 use Rattle.disk.specs.Medium.{Write}
 use Rattle.head.specs.Head.{all-below, none-twice}
-use Rattle.journal_law.specs.Cache.{seal, is-some, place-of, begun-place, different}
+use Rattle.journal_law.specs.Cache.{seal, place-of, begun-place, different}
 use Rattle.journal_law.proofs.Entries.{room-seal}
 use Rattle.batch.specs.Rows.{entries, write-in, begun-list, write-list}
 use Rattle.journal.specs.Model.{model, met}

@@ -1,12 +1,6 @@
-use borrow.Author.Needs.{needs}
-use mathlib.Core.Path.{_≡_, refl, sym, ap, subst, _∙_}
-use native.Mathlib.Omega.{arith}
-use lib.ListN.{length}
-use Rattle.std.specs.declared.option.Option.the-variants.{Some, None}
-use Rattle.std.specs.declared.result.Result.the-variants.{Ok, Err}
+use mathlib.Core.Path.{_≡_, sym, ap, _∙_}
 use Rattle.std.proofs.shelf.Lists.{length-map}
 use Rattle.std.proofs.shelf.Results.{err-from-errBy}
-use Rattle.errors.specs.declared.CacheError.{CacheError}
 use Rattle.journal_law.specs.Cache.{step, Answer, refused, with-group}
 use Rattle.batch.specs.Rows.{entries, write-in}
 use Rattle.group.specs.Groups.{under-way}

@@ -1,16 +1,15 @@
 use borrow.Author.Needs.{needs}
 use mathlib.Core.Path.{_≡_, refl, sym, ap, subst, _∙_}
-use mathlib.Core.Option.{some}
 use native.Mathlib.Omega.{arith}
-use Prim.Native.Nat.{_+_, _-_, _<_, _≤_}
-use Rattle.std.specs.declared.result.Result.the-variants.{Ok, Err}
-use Rattle.std.specs.declared.option.Option.the-variants.{Some, None}
+use Prim.Native.Nat.{_+_, _-_, _≤_}
+use Rattle.std.specs.declared.result.Result.the-variants.{Err}
+use Rattle.std.specs.declared.option.Option.the-variants.{None}
 use Rattle.std.proofs.shelf.Results.{err-from-errBy}
 use Rattle.disk.specs.Medium.{size}
-use Rattle.journal_law.specs.Recovery.{started, recovered, no-head, head-seen}
+use Rattle.journal_law.specs.Recovery.{started, recovered, head-seen}
 use Rattle.head.specs.Codes.{head-of, found}
 use Rattle.errors.specs.declared.VolumeError.the-variants as volume
-use Rattle.journal_volume.specs.Recovering.{at, Of-rule, seen-stage, Leads, Goes, accepted-by}
+use Rattle.journal_volume.specs.Recovering.{at, Of-rule, seen-stage, Leads, accepted-by}
 use Rattle.journal_volume.proofs.Going.{leads-on, ends-on, leads-size}
 use Rattle.journal_volume.proofs.Ending.{too-small, recovered-done, recovered-none, recovered-failed}
 use Rattle.journal_volume.proofs.cold.Cold.recover.Needs as need
