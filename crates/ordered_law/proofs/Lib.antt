@@ -13,5 +13,4 @@ pub mod Picking
 pub mod Sorting
 pub mod Follow
 pub mod Running
-pub mod Orders
 pub mod Knowing
