@@ -1,0 +1,4 @@
+pub mod Memory
+pub mod Admission
+pub mod Making
+pub mod Parts
