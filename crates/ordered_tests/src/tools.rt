@@ -11,11 +11,13 @@ use memdisk::held::HeldDiskBench;
 use memdisk::held::HeldDiskDisk;
 use ordered::cold::Cold;
 use ordered::live::Live;
-use ordered::progress::Progress;
 use precedence::Precedence;
 use std::alloc::AllocError;
 use std::alloc::Global;
 use std::test::Fail;
+use table::tally::Tally;
+
+pub(crate) const SHORT: usize = 511;
 
 // A held disk of `blocks` zero blocks with this plan.
 pub(crate) fn held(heap: Global, blocks: usize, plan: &[u8]) -> Result<HeldDisk, Fail> {
@@ -38,12 +40,34 @@ pub(crate) fn live<D: BenchDisk + Drop, P: Precedence + Drop>(
     }
 }
 
-// The mark that a begin or a finish answers, or else 100 plus the number of its refusal.
-pub(crate) fn mark(answer: Result<u32, CacheError>) -> u32 {
+// The mark, or else 100 plus the number of the refusal.
+fn mark(answer: Result<u32, CacheError>) -> u32 {
     match answer {
         Ok(mark) => mark,
         Err(error) => 100 + error.number() as u32,
     }
+}
+
+// Begins a write of a block of these bytes: its ticket, or 100 plus the number of the refusal.
+pub(crate) fn begin<D: BenchDisk, P: Precedence>(
+    cache: &mut Live<D, P>,
+    place: usize,
+    byte: u8,
+) -> u32 {
+    mark(cache.begin(place, &[byte; BLOCK]))
+}
+
+// The same with bytes that are no block.
+pub(crate) fn begin_short<D: BenchDisk, P: Precedence>(
+    cache: &mut Live<D, P>,
+    place: usize,
+) -> u32 {
+    mark(cache.begin(place, &[1; SHORT]))
+}
+
+// The finish mark, or 100 plus the number of the refusal.
+pub(crate) fn finish<D: BenchDisk, P: Precedence>(cache: &mut Live<D, P>, ticket: u32) -> u32 {
+    mark(cache.finish(ticket))
 }
 
 // 0, or the number of a refusal.
@@ -54,22 +78,55 @@ pub(crate) fn number(answer: Result<(), CacheError>) -> u8 {
     }
 }
 
-// The number of what a step did, or else 100 plus the number of its refusal.
-pub(crate) fn stepped(answer: Result<Progress, CacheError>) -> u32 {
-    match answer {
+pub(crate) fn withdraw<D: BenchDisk, P: Precedence>(cache: &mut Live<D, P>, ticket: u32) -> u8 {
+    number(cache.withdraw(ticket))
+}
+
+// The number of what the step did, or 100 plus the number of the refusal.
+pub(crate) fn step<D: BenchDisk, P: Precedence>(cache: &mut Live<D, P>) -> u32 {
+    match cache.step() {
         Ok(progress) => progress.number() as u32,
         Err(error) => 100 + error.number() as u32,
     }
 }
 
-// The fault that a step or a read handed up.
-pub(crate) fn fault<T: Drop>(answer: Result<T, CacheError>, call: CacheCall) -> Option<Fault> {
-    match answer {
-        Err(CacheError::Volume(during, VolumeError::Disk(DiskError::Fault(fault)))) => {
+// The fault that a refusal during this call hands up.
+fn fault(error: CacheError, call: CacheCall) -> Option<Fault> {
+    match error {
+        CacheError::Volume(during, VolumeError::Disk(DiskError::Fault(fault))) => {
             if during == call { Some(fault) } else { None }
         }
         _ => None,
     }
+}
+
+// The fault that the step hands up.
+pub(crate) fn step_fault<D: BenchDisk, P: Precedence>(cache: &mut Live<D, P>) -> Option<Fault> {
+    match cache.step() {
+        Ok(_) => None,
+        Err(error) => fault(error, CacheCall::Step),
+    }
+}
+
+// The fault that a read of the place hands up.
+pub(crate) fn read_fault<D: BenchDisk, P: Precedence>(
+    cache: &mut Live<D, P>,
+    place: usize,
+    buffer: &mut [u8],
+) -> Option<Fault> {
+    match cache.read(place, buffer) {
+        Ok(()) => None,
+        Err(error) => fault(error, CacheCall::Read),
+    }
+}
+
+// 0, or the number of the read's refusal.
+pub(crate) fn read<D: BenchDisk, P: Precedence>(
+    cache: &mut Live<D, P>,
+    place: usize,
+    buffer: &mut [u8],
+) -> u8 {
+    number(cache.read(place, buffer))
 }
 
 // The first byte that the cache shows of the place.
@@ -80,4 +137,8 @@ pub(crate) fn first<D: BenchDisk, P: Precedence>(
     let mut buffer = [0; BLOCK];
     cache.read(place, &mut buffer)?;
     Ok(buffer[0])
+}
+
+pub(crate) fn tally<D: BenchDisk, P: Precedence>(cache: &Live<D, P>) -> Tally {
+    cache.tally()
 }
