@@ -1,17 +1,14 @@
 // Openings and cuts.
-use crate::tools::begin;
-use crate::tools::finish;
-use crate::tools::first;
+use crate::tools::Ask::*;
 use crate::tools::held;
 use crate::tools::live;
-use crate::tools::step;
-use crate::tools::tally;
-use errors::CacheErrorDebug;
+use crate::tools::play;
 use memdisk::held::HeldDiskBench;
 use memdisk::held::HeldDiskDisk;
 use ordered::cold::Cold;
 use precedence::Overlap;
 use precedence::OverlapPrecedence;
+use std::alloc::Global;
 use std::test::*;
 
 #[test]
@@ -24,31 +21,44 @@ fn a_faulty_opening_leaves_the_volume_cold(rt: LibcRuntime) -> Result<(), Fail> 
     check(cold.is_accepted())
 }
 
+// The write at place 0 is home, those at 1 and 2 are loose.
+fn cut_by(heap: Global, choice: u8, first: u32, second: u32) -> Result<(), Fail> {
+    let mut cache = live(held(heap, 3, &[])?, Overlap)?;
+    play(
+        &mut cache,
+        &[
+            (Begin(0, 1), 1),
+            (Finish(1), 2),
+            (Step, 1),
+            (Step, 2),
+            (Begin(1, 2), 3),
+            (Begin(2, 3), 4),
+            (Finish(3), 5),
+            (Finish(4), 6),
+            (Step, 1),
+            (Step, 1),
+        ],
+    )?;
+    let mut cold = cache.cut(choice);
+    if cold.open().is_err() || !cold.is_accepted() {
+        return Err(Fail::new("not opened"));
+    }
+    let mut cache = cold.into_live(Overlap);
+    play(
+        &mut cache,
+        &[
+            (Read(0), 1),
+            (Read(1), first),
+            (Read(2), second),
+            (Begin(1, 9), 1),
+        ],
+    )
+}
+
 #[test]
 fn home_writes_outlive_every_cut(rt: LibcRuntime) -> Result<(), Fail> {
-    for choice in 0..4 {
-        let mut cache = live(held(rt.alloc(), 3, &[])?, Overlap)?;
-        check_eq(begin(&mut cache, 0, 1), 1)?;
-        check_eq(finish(&mut cache, 1), 2)?;
-        check_eq(step(&mut cache), 1)?;
-        check_eq(step(&mut cache), 2)?;
-        check_eq(begin(&mut cache, 1, 2), 3)?;
-        check_eq(begin(&mut cache, 2, 3), 4)?;
-        check_eq(finish(&mut cache, 3), 5)?;
-        check_eq(finish(&mut cache, 4), 6)?;
-        check_eq(step(&mut cache), 1)?;
-        check_eq(step(&mut cache), 1)?;
-        let mut cold = cache.cut(choice);
-        check(!cold.is_accepted())?;
-        check(cold.open().is_ok())?;
-        if !cold.is_accepted() {
-            return Err(Fail::new("not opened"));
-        }
-        let mut cache = cold.into_live(Overlap);
-        check_eq(first(&mut cache, 0)?, 1)?;
-        check_eq(first(&mut cache, 1)?, if choice % 2 == 1 { 2 } else { 0 })?;
-        check_eq(first(&mut cache, 2)?, if choice / 2 == 1 { 3 } else { 0 })?;
-        check_eq(tally(&cache).begun, 0)?;
-    }
-    Ok(())
+    cut_by(rt.alloc(), 0, 0, 0)?;
+    cut_by(rt.alloc(), 1, 2, 0)?;
+    cut_by(rt.alloc(), 2, 0, 3)?;
+    cut_by(rt.alloc(), 3, 2, 3)
 }

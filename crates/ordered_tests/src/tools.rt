@@ -14,8 +14,7 @@ use ordered::live::Live;
 use precedence::Precedence;
 use std::alloc::AllocError;
 use std::alloc::Global;
-use std::test::Fail;
-use table::tally::Tally;
+use std::test::*;
 
 pub(crate) const SHORT: usize = 511;
 
@@ -40,54 +39,85 @@ pub(crate) fn live<D: BenchDisk + Drop, P: Precedence + Drop>(
     }
 }
 
-// The mark, or else 100 plus the number of the refusal.
+// A call of the cache, as the lines of a test name it.
+#[derive(Clone, Copy)]
+pub(crate) enum Ask {
+    // a place, and the byte that fills its block
+    Begin(usize, u8),
+    // a begin with bytes that are no block
+    BeginShort(usize),
+    Finish(u32),
+    Withdraw(u32),
+    Read(usize),
+    Step,
+    Restart(u8),
+    // the counts of a tally
+    Waiting,
+    Sent,
+    Home,
+}
+
+// A refusal is told as this plus its number.
+const REFUSED: u32 = 100;
+
 fn mark(answer: Result<u32, CacheError>) -> u32 {
     match answer {
         Ok(mark) => mark,
-        Err(error) => 100 + error.number() as u32,
+        Err(error) => REFUSED + error.number() as u32,
     }
 }
 
-// Begins a write of a block of these bytes: its ticket, or 100 plus the number of the refusal.
-pub(crate) fn begin<D: BenchDisk, P: Precedence>(
+// The first byte that the cache shows of the place.
+fn first<D: BenchDisk, P: Precedence>(
     cache: &mut Live<D, P>,
     place: usize,
-    byte: u8,
-) -> u32 {
-    mark(cache.begin(place, &[byte; BLOCK]))
+) -> Result<u32, CacheError> {
+    let mut buffer = [0; BLOCK];
+    cache.read(place, &mut buffer)?;
+    Ok(buffer[0] as u32)
 }
 
-// The same with bytes that are no block.
-pub(crate) fn begin_short<D: BenchDisk, P: Precedence>(
+fn step<D: BenchDisk, P: Precedence>(cache: &mut Live<D, P>) -> Result<u32, CacheError> {
+    let progress = cache.step()?;
+    Ok(progress.number() as u32)
+}
+
+fn withdraw<D: BenchDisk, P: Precedence>(
     cache: &mut Live<D, P>,
-    place: usize,
-) -> u32 {
-    mark(cache.begin(place, &[1; SHORT]))
+    ticket: u32,
+) -> Result<u32, CacheError> {
+    cache.withdraw(ticket)?;
+    Ok(0)
 }
 
-// The finish mark, or 100 plus the number of the refusal.
-pub(crate) fn finish<D: BenchDisk, P: Precedence>(cache: &mut Live<D, P>, ticket: u32) -> u32 {
-    mark(cache.finish(ticket))
-}
-
-// 0, or the number of a refusal.
-pub(crate) fn number(answer: Result<(), CacheError>) -> u8 {
-    match answer {
-        Ok(()) => 0,
-        Err(error) => error.number(),
+// Makes the call: its mark, byte, step or count, 0 where it has none, or its refusal.
+fn answer<D: BenchDisk, P: Precedence>(cache: &mut Live<D, P>, call: Ask) -> u32 {
+    match call {
+        Ask::Begin(place, byte) => mark(cache.begin(place, &[byte; BLOCK])),
+        Ask::BeginShort(place) => mark(cache.begin(place, &[1; SHORT])),
+        Ask::Finish(ticket) => mark(cache.finish(ticket)),
+        Ask::Withdraw(ticket) => mark(withdraw(cache, ticket)),
+        Ask::Read(place) => mark(first(cache, place)),
+        Ask::Step => mark(step(cache)),
+        Ask::Restart(choice) => {
+            cache.restart(choice);
+            0
+        }
+        Ask::Waiting => cache.tally().waiting,
+        Ask::Sent => cache.tally().sent,
+        Ask::Home => cache.tally().home,
     }
 }
 
-pub(crate) fn withdraw<D: BenchDisk, P: Precedence>(cache: &mut Live<D, P>, ticket: u32) -> u8 {
-    number(cache.withdraw(ticket))
-}
-
-// The number of what the step did, or 100 plus the number of the refusal.
-pub(crate) fn step<D: BenchDisk, P: Precedence>(cache: &mut Live<D, P>) -> u32 {
-    match cache.step() {
-        Ok(progress) => progress.number() as u32,
-        Err(error) => 100 + error.number() as u32,
+// Makes the calls in turn, and holds each to its answer.
+pub(crate) fn play<D: BenchDisk, P: Precedence>(
+    cache: &mut Live<D, P>,
+    lines: &[(Ask, u32)],
+) -> Result<(), Fail> {
+    for line in lines {
+        check_eq(answer(cache, line.0), line.1)?;
     }
+    Ok(())
 }
 
 // The fault that a refusal during this call hands up.
@@ -108,7 +138,7 @@ pub(crate) fn step_fault<D: BenchDisk, P: Precedence>(cache: &mut Live<D, P>) ->
     }
 }
 
-// The fault that a read of the place hands up.
+// A read of the place: the fault that it hands up.
 pub(crate) fn read_fault<D: BenchDisk, P: Precedence>(
     cache: &mut Live<D, P>,
     place: usize,
@@ -120,25 +150,14 @@ pub(crate) fn read_fault<D: BenchDisk, P: Precedence>(
     }
 }
 
-// 0, or the number of the read's refusal.
+// A read of the place: 0, or the number of its refusal.
 pub(crate) fn read<D: BenchDisk, P: Precedence>(
     cache: &mut Live<D, P>,
     place: usize,
     buffer: &mut [u8],
 ) -> u8 {
-    number(cache.read(place, buffer))
-}
-
-// The first byte that the cache shows of the place.
-pub(crate) fn first<D: BenchDisk, P: Precedence>(
-    cache: &mut Live<D, P>,
-    place: usize,
-) -> Result<u8, CacheError> {
-    let mut buffer = [0; BLOCK];
-    cache.read(place, &mut buffer)?;
-    Ok(buffer[0])
-}
-
-pub(crate) fn tally<D: BenchDisk, P: Precedence>(cache: &Live<D, P>) -> Tally {
-    cache.tally()
+    match cache.read(place, buffer) {
+        Ok(()) => 0,
+        Err(error) => error.number(),
+    }
 }
