@@ -3,6 +3,9 @@
 mod begins;
 #[cfg(test)]
 mod ends;
+pub mod mixed;
+#[cfg(test)]
+mod own_disk;
 #[cfg(test)]
 mod reads;
 #[cfg(test)]
