@@ -10,6 +10,8 @@ use Rattle.std.specs.declared.option.Option.{Option}
 use Rattle.std.specs.declared.option.Option.the-variants.{Some, None}
 use Rattle.std.specs.declared.result.Result.{Result}
 use Rattle.std.specs.declared.result.Result.the-variants.{Ok, Err}
+use Rattle.std.specs.Results.{isOk}
+use borrow.Author.Tests.{clash}
 use Rattle.disk.specs.declared.error.Kind.the-variants as kind
 use Rattle.disk.specs.Medium.{Block, Write, Effect, join, Medium, size, current, cut}
 use Rattle.disk.specs.Calls as calls
@@ -39,7 +41,7 @@ use Rattle.ordered.specs.declared.progress.Progress.the-variants.{Written, Flu
 use Rattle.ordered.specs.Model.{gives, stepped, write-in, asked-write}
 use Rattle.ordered.specs.Grants.{Job, jobs, handed-up}
 use Rattle.ordered.specs.Opening.{flush-answer, flush-leaves, made, Starts}
-use Rattle.ordered.specs.Reading.{read-as, buffer-after, read-answer, read-leaves}
+use Rattle.ordered.specs.Reading.{read-as, buffer-after, read-answer, read-leaves, Reads-newest}
 
 -- a call that came out as the model says goes on with every run
 pub goes-on : {precedes : Precedence} → Lawful precedes → (device : Device) (call : Call) {c d : Cache} {a : Answer} → gives a d ≡ outcome precedes device call c → Runs-on precedes call c a d
@@ -207,6 +209,15 @@ buffer-handed tries m place b calls.wrong-length = refl
 buffer-handed tries m place b calls.wrong-place = refl
 buffer-handed tries m place b calls.failed = refl
 buffer-handed tries m place b calls.served = refl
+
+accepted-shows : (r : Result (Unit {0}) CacheError) (b : List ℕ) → isOk r ≡ true → read-as r b ≡ shown b
+accepted-shows (Ok u) b e = refl
+accepted-shows (Err x) b e = absurd (clash e)
+
+pub shows-newest : {precedes : Precedence} → Lawful precedes → (device : Device) (place n : ℕ) {c d : Cache} (r : Result (Unit {0}) CacheError) (b : List ℕ) →
+    gives (read-as r b) d ≡ read-call device place n c → Reads-newest precedes c place r b
+shows-newest {precedes} lawful device place n {c} {d} r b e m es ran ok =
+    lawful-runs precedes lawful m es c ran .reads-newest device place n b (sym (ap (λ (o : Outcome). o .answer) e) ∙ accepted-shows r b ok)
 
 module _ (device : Device) (place : ℕ) (b : List ℕ) (c : Cache) where
   abbrev short : Bool

@@ -24,7 +24,7 @@ pub struct Live<D, P> {
 }
 
 // Leave to write one row back. It is not `Drop`: whoever holds one has to settle it.
-pub struct Grant {
+pub(crate) struct Grant {
     pub(crate) row: usize,
     pub(crate) place: usize,
     pub(crate) bytes: [u8; BLOCK],

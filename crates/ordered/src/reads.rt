@@ -8,7 +8,7 @@ ghost use Rattle.ordered_law.specs.Events.{Read};
 ghost use Rattle.ordered_law.specs.Cache.{read-call};
 ghost use Rattle.ordered_law.specs.Runs.{Runs-on};
 ghost use Rattle.ordered.specs.Model.{model, gives, device};
-ghost use Rattle.ordered.specs.Reading.{read-as, read-answer, read-leaves, buffer-after};
+ghost use Rattle.ordered.specs.Reading.{read-as, read-answer, read-leaves, buffer-after, Reads-newest};
 use crate::live::Live;
 use disk::disk::BLOCK;
 use disk::disk::BenchDisk;
@@ -35,6 +35,7 @@ impl<D: BenchDisk, P: Precedence> Live<D, P> {
     pub fn read(&mut self, place: usize, buffer: &mut [u8]) -> Result<(), CacheError>
         ensures outcome { λ r. ⌜ gives (read-as r (now (buffer .exit))) (model (D·Disk .medium) (now (self .exit))) ≡ read-call (device (D·Disk .rule) (D·Disk .attempts) before (now (self .entry))) place (length (now (buffer .entry))) (model (D·Disk .medium) (now (self .entry))) ⌝ }
         ensures buffer { λ r. ⌜ now (buffer .exit) ≡ buffer-after (now (buffer .entry)) (read-call (device (D·Disk .rule) (D·Disk .attempts) before (now (self .entry))) place (length (now (buffer .entry))) (model (D·Disk .medium) (now (self .entry))) .answer) ⌝ }
+        ensures newest { λ r. ⌜ Reads-newest (before (now (self .entry) .order)) (model (D·Disk .medium) (now (self .entry))) place r (now (buffer .exit)) ⌝ }
         ensures order { λ _. ⌜ now (self .exit) .order ≡ now (self .entry) .order ⌝ }
         ensures runs { λ r. ⌜ Runs-on (before (now (self .entry) .order)) (Read place (length (now (buffer .entry)))) (model (D·Disk .medium) (now (self .entry))) (read-as r (now (buffer .exit))) (model (D·Disk .medium) (now (self .exit))) ⌝ }
     {

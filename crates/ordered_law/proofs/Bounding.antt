@@ -4,16 +4,16 @@ use native.Mathlib.Omega.{arith}
 use mathlib.Core.Bool.{Bool, true, false, cond, not, _||_}
 use mathlib.Core.List.{List, [], _∷_, _++_, map}
 use mathlib.Core.Option.{Option, none, some}
-use mathlib.Core.Path.{_≡_, refl, sym, subst, _∙_}
-use lib.ListN.{length, set}
+use mathlib.Core.Path.{_≡_, refl, sym, subst}
+use lib.ListN.{length}
 use lib.Dec.{eqb, ltb}
 use Rattle.std.specs.shelf.Lists.{kept-by}
-use Rattle.std.proofs.shelf.Lists.{length-map, length-push, length-set}
+use Rattle.std.proofs.shelf.Lists.{length-map, length-push}
 use Rattle.std.proofs.shelf.Tests.{cond-both, both-ways}
 use Rattle.std.proofs.shelf.Elements.{all-push, all-kept-by}
-use Rattle.disk.specs.Medium.{Block, Write, lay, standing, passed, flushed, cut, Medium, Effect, join, settle, allowed, take-effect}
+use Rattle.disk.specs.Medium.{Block, Write, standing, passed, flushed, cut, Medium, Effect, join, settle, allowed, take-effect}
 use Rattle.table.specs.declared.held.Version.{Version}
-use Rattle.ordered_law.proofs.Lists.{all-map}
+use Rattle.ordered_law.proofs.Lists.{lay-length, all-map}
 use Rattle.ordered_law.proofs.Refusals.{unless-both, accepted}
 use Rattle.ordered_law.specs.Device.{Device}
 use Rattle.ordered_law.proofs.Sorted.{written, next-bad, newest, Sorted, SortedOutcome, sorted-refusal, sorted-begin, sorted-finish, sorted-read, sorted-through, sorted-with, sorted-step, sorted-outcome}
@@ -24,12 +24,6 @@ use Rattle.ordered_law.specs.Promise.{write-of}
 use Rattle.ordered_law.specs.Cache.{any-sent, any-busy}
 use Rattle.ordered_law.specs.Events.{Call, Begin, Finish, Withdraw, Read, Step, Restart, Count}
 use Rattle.ordered_law.specs.Bounds.{Fitting, Bounded}
-
--- ---- sizes
-
-lay-length : (ws : List Write) (bs : List Block) → length (lay bs ws) ≡ length bs
-lay-length [] bs = refl
-lay-length (w ∷ ws) bs = lay-length ws (set bs (w .place) (w .bytes)) ∙ length-set bs (w .place) (w .bytes)
 
 kept-length : (p : Version → Bool) (l : List Version) → length (kept-by p l) ≤ length l
 kept-length p [] = omega arith

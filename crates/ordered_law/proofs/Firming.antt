@@ -17,22 +17,22 @@ use Rattle.ordered_law.proofs.Lists.{In, all-in, all-of, all-both, pairs-weake
 use Rattle.ordered_law.proofs.Invariant.{Sound, Before, Released, Book, Firm, Due, Stored, plus, plus-one, valid, unique, before, lay-in}
 use Rattle.precedence.specs.Stamps.{Precedence, Lawful}
 use Rattle.ordered_law.specs.Promise.{write-of, kept-writes, Shows}
-use Rattle.table.specs.Versions.{live}
+use Rattle.table.specs.Versions.{live, finished}
 
 abbrev pub Free : Precedence → List Version → (ℕ → Bool) → Type 0
 Free precedes l kept = All (λ v. kept (v .stamp .begin) ≡ true → Released precedes l v) l
 
 module _ (precedes : Precedence) (lawful : Lawful precedes) (n : ℕ) (l : List Version) (book : Book precedes n l) where
-  -- a released write is never a later one of the place of a released write in the table
-  pub no-later : (d f : Version) → In d l → live (d .state) ≡ true → Released precedes l d → In f l → Released precedes l f → d .stamp .begin < f .stamp .begin → f .stamp .place ≢ d .stamp .place
-  no-later d f i a rd j r lt q =
+  -- a released write is never a later one of the place of a finished write in the table
+  pub no-later : (d f : Version) → In d l → live (d .state) ≡ true → finished (d .state) ≡ true → In f l → Released precedes l f → d .stamp .begin < f .stamp .begin → f .stamp .place ≢ d .stamp .place
+  no-later d f i a done j r lt q =
       let b : Before d f = before d f l (book .order) i j lt in
       let sd : Sound n d = all-in (Sound n) d l i (book .sound) in
       let sf : Sound n f = all-in (Sound n) f l j (book .sound) in
       both-ways (precedes (d .stamp) (f .stamp))
       (all-in (λ u. live (u .state) ≡ true → precedes (u .stamp) (f .stamp) ≡ false) d l i (r .unpreceded) a)
       (lawful .same-place (d .stamp) (f .stamp) (valid n d sd) (valid n f sf) (sym q)
-      (λ z. let m = sd .marked (rd .done) in omega arith) (b .ended (sym q) (rd .done)))
+      (λ z. let m = sd .marked done in omega arith) (b .ended (sym q) done))
 
   free-one : (kept : ℕ → Bool) (d : Version) → In d l → Released precedes l d → Free precedes l kept → Free precedes l (plus-one kept (d .stamp .begin))
   free-one kept d i r fr = all-of _ l (λ v j e. go v j (or-cases (kept (v .stamp .begin)) (eqb (d .stamp .begin) (v .stamp .begin)) e))
@@ -53,7 +53,7 @@ module _ (precedes : Precedence) (lawful : Lawful precedes) (n : ℕ) (l : List 
       ∙ lay-all opening ds (a .1) (plus-one kept (d .stamp .begin)) (free-one kept d (a .0 .0) (a .0 .2) fr)
     where
       clear : All (λ f. d .stamp .begin < f .stamp .begin → kept (f .stamp .begin) ≡ true → f .stamp .place ≢ d .stamp .place) l
-      clear = all-of _ l (λ f j lt k. no-later d f (a .0 .0) (a .0 .1) (a .0 .2) j (all-in (λ v. kept (v .stamp .begin) ≡ true → Released precedes l v) f l j fr k) lt)
+      clear = all-of _ l (λ f j lt k. no-later d f (a .0 .0) (a .0 .1) (a .0 .2 .done) j (all-in (λ v. kept (v .stamp .begin) ≡ true → Released precedes l v) f l j fr k) lt)
 
   pub plus-in : (ds : List Version) (kept : ℕ → Bool) (b : ℕ) → kept b ≡ true → plus kept ds b ≡ true
   plus-in [] kept b e = e

@@ -12,7 +12,6 @@ use Rattle.std.proofs.shelf.Tests.{eq-eqb}
 use Rattle.std.proofs.shelf.Lists.{set-set, set-comm}
 use Rattle.std.proofs.shelf.Ways.{tells}
 use Rattle.disk.specs.Medium.{Block, Write, lay, Medium}
-use Rattle.table.specs.declared.held.State.{State}
 use Rattle.table.specs.declared.held.State.the-variants.{Home}
 use Rattle.table.specs.declared.held.Version.{Version}
 use Rattle.ordered_law.proofs.Lists.{In, here, there, all-in, all-both, pairs-in, kept-same}

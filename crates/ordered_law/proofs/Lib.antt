@@ -6,6 +6,7 @@ pub mod Firming
 pub mod Changes
 pub mod Storage
 pub mod Calls
+pub mod Reading
 pub mod Drain
 pub mod Counting
 pub mod Bounding
@@ -13,5 +14,4 @@ pub mod Picking
 pub mod Sorting
 pub mod Follow
 pub mod Running
-pub mod Orders
 pub mod Knowing

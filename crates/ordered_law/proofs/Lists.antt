@@ -10,7 +10,9 @@ use lib.Dec.{eqb}
 use Rattle.std.specs.shelf.Lists.{kept-by, All}
 use Rattle.std.proofs.shelf.Elements.{all-weaker, all-kept-by}
 use Rattle.std.proofs.shelf.Tests.{both-ways, cond-both}
-use Rattle.disk.specs.Medium.{Write, standing}
+use Rattle.disk.specs.Medium.{Block, Write, lay, standing}
+use lib.ListN.{length, set}
+use Rattle.std.proofs.shelf.Lists.{length-set}
 use Rattle.table.specs.declared.held.Version.{Version}
 use Rattle.ordered_law.specs.Promise.{write-of, kept-writes, Pairs}
 use Rattle.table.specs.Versions.{live, some-pass, held}
@@ -171,3 +173,8 @@ all-standing P choice (v ∷ l) a = go _ _ (all-standing P (choice / 2) l (a .1)
 pub kept-same : (kept kept′ : ℕ → Bool) (l : List Version) → All (λ v. kept (v .stamp .begin) ≡ kept′ (v .stamp .begin)) l → kept-writes kept l ≡ kept-writes kept′ l
 kept-same kept kept′ [] a = refl
 kept-same kept kept′ (v ∷ l) a = cc (a .0, kept-same kept kept′ l (a .1))
+
+-- laying writes leaves the number of blocks
+pub lay-length : (ws : List Write) (bs : List Block) → length (lay bs ws) ≡ length bs
+lay-length [] bs = refl
+lay-length (w ∷ ws) bs = lay-length ws (set bs (w .place) (w .bytes)) ∙ length-set bs (w .place) (w .bytes)

@@ -11,6 +11,7 @@ use Rattle.std.proofs.shelf.Lists.{length-map, map-push}
 use Rattle.disk.specs.Medium.{Medium, current, cut}
 use Rattle.table.specs.declared.held.State.the-variants.{Open, Home}
 use Rattle.ordered_law.proofs.Calls.{cut-safe, cut-safe-within}
+use Rattle.ordered_law.proofs.Reading.{reads-newest}
 use Rattle.ordered_law.proofs.Drain.{drains}
 use Rattle.ordered_law.proofs.Bounding.{Within, call-bounded}
 use Rattle.ordered_law.proofs.Follow.{model-of, Fit, Follows, count-same, tally-same, call-follows}
@@ -22,9 +23,9 @@ use Rattle.precedence.specs.Stamps.{Precedence, Lawful}
 use Rattle.table.specs.Versions.{finished, reserves}
 use Rattle.ordered_law.specs.Device.{Device}
 use Rattle.ordered_law.proofs.Sorted.{Sorted, sorted-outcome, sorted-opened, Asked, after, events, steps}
-use Rattle.ordered_law.specs.Events.{Answer, Call, Step, Event}
+use Rattle.ordered_law.specs.Events.{Answer, Call, Read, Step, Event}
 use Rattle.ordered_law.specs.Ledger.{replay}
-use Rattle.ordered_law.specs.Promise.{Shows, unhomed, bads}
+use Rattle.ordered_law.specs.Promise.{Shows, newest-block, unhomed, bads}
 use Rattle.ordered_law.specs.Bounds.{Fitting, Bounded}
 use Rattle.ordered_law.specs.Cache.{Cache, fresh, opened, tally, tallied, outcome}
 use Rattle.ordered_law.specs.Runs.{event-of, Ran, started, called, Runs-on, Lawful-runs}
@@ -102,6 +103,10 @@ lawful-runs precedes lawful m es c r =
           subst₂ (λ (l : List Event) (x : Medium). Shows precedes (current m) (replay precedes [] l) (current (cut choice x))) (f .answered)
           (ap (λ (x : Sorted). sorted-outcome precedes device call x .cache .medium) (f .reached) ∙ sym (ap (λ (x : Sorted). x .medium) (step .caches)))
           (cut-safe-within precedes lawful m (f .asked) (record { call = call; device = device }) choice);
+      reads-newest = λ device place n b e.
+          let step : Follows (outcome precedes device (Read place n) c) (sorted-outcome precedes device (Read place n) (model-of c)) = call-follows c (f .fit) (f .bounded) precedes device (Read place n) in
+          subst (λ (l : List Event). b ≡ newest-block (current m) (replay precedes [] l) place) (f .answered)
+          (reads-newest precedes lawful m (f .asked) device place n b (ap (λ (x : Sorted). sorted-outcome precedes device (Read place n) x .answer) (f .reached) ∙ sym (step .answers) ∙ e));
       drains = λ ss d ran only shut n.
           let g = followed precedes (f .fit) (f .bounded) ran in
           let o = only-steps (g .asked) ss (g .calls) only in

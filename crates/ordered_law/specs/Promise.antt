@@ -4,7 +4,7 @@ use mathlib.Core.Bool.{Bool, true, cond, _||_}
 use mathlib.Core.List.{List, [], _∷_}
 use mathlib.Core.Path.{_≡_}
 use mathlib.Core.Logic.{_≢_}
-use lib.ListN.{length}
+use lib.ListN.{length, getD}
 use Rattle.std.specs.shelf.Lists.{kept-by, All}
 use Rattle.disk.specs.Medium.{Block, Write, lay, Entry, good, bad}
 use Rattle.precedence.specs.Stamps.{Precedence}
@@ -15,10 +15,14 @@ use Rattle.table.specs.Versions.{finished, is-waiting, is-sent}
 abbrev pub write-of : Version → Write
 write-of v = record { place = v .stamp .place; bytes = v .bytes }
 
--- the ledger's writes among those kept, in the ledger's order; `kept` goes by begin mark
+-- the ledger's writes that pass, in the ledger's order
+abbrev pub writes : (Version → Bool) → List Version → List Write
+writes p [] = []
+writes p (v ∷ ledger) = cond (p v) (write-of v ∷ writes p ledger) (writes p ledger)
+
+-- those of a set, which goes by begin mark
 abbrev pub kept-writes : (ℕ → Bool) → List Version → List Write
-kept-writes kept [] = []
-kept-writes kept (v ∷ ledger) = cond (kept (v .stamp .begin)) (write-of v ∷ kept-writes kept ledger) (kept-writes kept ledger)
+kept-writes kept ledger = writes (λ v. kept (v .stamp .begin)) ledger
 
 -- R holds of each element and every later one
 abbrev pub Pairs : {A : Type 0} → (A → A → Type 0) → List A → Type 0
@@ -41,6 +45,10 @@ pub record Shows (precedes : Precedence) (opening : List Block) (ledger : List V
   pub with-preceding :
       All (λ v. kept (v .stamp .begin) ≡ true →
       All (λ u. precedes (u .stamp) (v .stamp) ≡ true → u .state ≢ Withdrawn → kept (u .stamp .begin) ≡ true) ledger) ledger
+
+-- The newest block of a place: that of the opening blocks with all finished writes laid on by begin mark.
+abbrev pub newest-block : List Block → List Version → ℕ → Block
+newest-block opening ledger place = getD (lay opening (writes (λ v. finished (v .state)) ledger)) place []
 
 -- the bad entries of a plan
 abbrev pub bads : List Entry → ℕ

@@ -6,17 +6,17 @@ use mathlib.Core.List.{List, [], _∷_, _++_}
 use mathlib.Core.Path.{_≡_}
 use lib.ListN.{length}
 use Rattle.std.specs.shelf.Lists.{All}
-use Rattle.disk.specs.Medium.{Medium, size, current, cut}
+use Rattle.disk.specs.Medium.{Block, Medium, size, current, cut}
 use Rattle.precedence.specs.Stamps.{Precedence, Lawful, overlap, line}
 use Rattle.table.specs.declared.held.State.the-variants.{Open, Home}
 use Rattle.table.specs.declared.held.Version.{Version}
 use Rattle.table.specs.Versions.{finished}
 use Rattle.table.specs.Rows.{in-rows}
 use Rattle.ordered_law.specs.Device.{Device}
-use Rattle.ordered_law.specs.Events.{Call, Step, Answer, Event}
+use Rattle.ordered_law.specs.Events.{Call, Read, Step, Answer, shown, Event}
 use Rattle.ordered_law.specs.Cache.{Cache, Opening, fresh, opened, tally, outcome}
 use Rattle.ordered_law.specs.Ledger.{replay}
-use Rattle.ordered_law.specs.Promise.{Shows, unhomed, bads}
+use Rattle.ordered_law.specs.Promise.{Shows, newest-block, unhomed, bads}
 use Rattle.ordered_law.specs.Tallies.{ledger-tally, Adds-up}
 use Rattle.ordered_law.specs.Bounds.{Bounded}
 
@@ -41,6 +41,9 @@ pub record Laws (precedes : Precedence) (o : Opening) (es : List Event) (c : Cac
   pub cut-safe : (choice : ℕ) → Shows precedes (current (o .medium)) (ledger precedes o es) (current (cut choice (c .medium)))
   -- and so does a power failure within one more call, after its disk call and before its answer
   pub cut-within : (device : Device) (call : Call) (choice : ℕ) → Shows precedes (current (o .medium)) (ledger precedes o es) (current (cut choice (outcome precedes device call c .cache .medium)))
+  -- a read shows the newest: an accepted one shows the place's finished write of highest begin mark, whether it waits, was
+  -- sent or is home, or else the opening block
+  pub reads-newest : (device : Device) (place n : ℕ) (block : Block) → outcome precedes device (Read place n) c .answer ≡ shown block → block ≡ newest-block (current (o .medium)) (ledger precedes o es) place
   -- a drain ends: with w finished writes not home, none open and b bad entries left, 2 * w + b steps in a row bring all
   -- home
   pub drains : (steps : List Event) (d : Cache) → Ran precedes c steps d → All (λ e. e .call ≡ Step) steps →

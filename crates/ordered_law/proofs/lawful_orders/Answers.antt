@@ -1,5 +1,5 @@
-use Rattle.ordered_law.proofs.Orders.{lawful-orders}
+use Rattle.precedence.proofs.Orders.{by-overlap, by-line}
 use Rattle.ordered_law.proofs.lawful_orders.Needs as need
 
 pub returns : need.returns
-returns c = lawful-orders
+returns c = record { by-overlap = by-overlap; by-line = by-line }

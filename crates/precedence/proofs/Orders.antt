@@ -1,10 +1,9 @@
 -- Overlap and line keep the laws of a precedence.
 use native.Mathlib.Omega.{arith}
 use Rattle.std.proofs.shelf.Ways.{tells}
 use Rattle.precedence.specs.Stamps.{Lawful, overlap, line}
-use Rattle.ordered_law.specs.Runs.{Lawful-orders}
 
-by-overlap : Lawful overlap
+pub by-overlap : Lawful overlap
 by-overlap = record {
   only-earlier = λ u v a b h. grind (arith, tells);
   same-place = λ u v a b p f l. grind (arith, tells);
@@ -12,13 +11,10 @@ by-overlap = record {
   second-finishes = λ u v f a b o p. grind (arith, tells);
 }
 
-by-line : Lawful line
+pub by-line : Lawful line
 by-line = record {
   only-earlier = λ u v a b h. grind (arith, tells);
   same-place = λ u v a b p f l. grind (arith, tells);
   first-finishes = λ u v f a b o p q. grind (arith, tells);
   second-finishes = λ u v f a b o p. grind (arith, tells);
 }
-
-pub lawful-orders : Lawful-orders
-lawful-orders = record { by-overlap = by-overlap; by-line = by-line }
