@@ -1,5 +1,5 @@
 ghost use Rattle.journal_law.specs.Laws.{Head-exact, Lawful-runs, Recovery-idles, Recovery-ends};
-ghost use Rattle.journal_law.specs.Known.{Known-journal, Worked-run};
+ghost use Rattle.journal_law.specs.Known.{Worked-run};
 
 // A block is a head exactly where it has a head's layout.
 pub fn head_is_exact() -> u8
@@ -25,13 +25,6 @@ pub fn recovery_idles() -> u8
 // Every recovery ends, and is broken off by faults alone.
 pub fn recovery_ends() -> u8
     ensures { λ _. ⌜ Recovery-ends ⌝ }
-{
-    0
-}
-
-// The worked cases of the head's bytes and of the counter's end.
-pub fn known_journal() -> u8
-    ensures { λ _. ⌜ Known-journal ⌝ }
 {
     0
 }

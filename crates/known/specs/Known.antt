@@ -6,6 +6,7 @@ use lib.ListN.{getD}
 use Rattle.disk.specs.Medium.{Block, good, bad, Medium, current, cut}
 use Rattle.retry.specs.Retried.{retried}
 use Rattle.ordered_law.specs.Known.{Known-ordered}
+use Rattle.journal_law.specs.Known.{Known-journal}
 
 -- firm block a, and b and then c loose at its place
 abbrev pub two-loose : Block → Block → Block → Medium
@@ -24,3 +25,5 @@ pub record Known-outcomes : Type 0 where
   pub both-stand : (a b c : Block) → shown-after 3 a b c ≡ c
   -- precedences, and the last marks of the ordered cache
   pub ordered : Known-ordered
+  -- heads, byte for byte, and the last marks of the journaled cache
+  pub journal : Known-journal
