@@ -11,6 +11,7 @@ use Rattle.std.proofs.shelf.Tests.{and-parts, and-from, ltb-true, lt-ltb, eqb-t
 use mathlib.Core.Logic.{⊎-elim}
 use Rattle.head.specs.Head.{holds, all-below, none-twice}
 use Rattle.journal_law.specs.Cache.{Begun, begun-place, different, find, without}
+use Rattle.journal_law.proofs.Entries.{either-right}
 use Rattle.journal_law.proofs.Tables.{holds-append, different-mono, different-past, different-fresh, length-different, once-parts, holds-without, none-some}
 use Rattle.batch.specs.declared.entry.Entry.{Entry}
 use Rattle.batch.specs.Rows.{place-in, begun-in, outside}
@@ -105,10 +106,6 @@ module _ (n : ℕ) where
 
   either-left : (a b : Bool) → a ≡ true → cond a true b ≡ true
   either-left a b e = ap (λ x. cond x true b) e
-
-  either-right : (a b : Bool) → b ≡ true → cond a true b ≡ true
-  either-right true b e = refl
-  either-right false b e = e
 
   pub room-open : (place : ℕ) (coll ps : List ℕ) → place < n → holds place ps ≡ false → all-below n ps ≡ true → none-twice ps ≡ true → different n (place ∷ (coll ++ ps)) ≤ 8 → length ps < 8
   room-open place coll ps l fresh a o few =

@@ -9,12 +9,12 @@ use lib.ListN.{set}
 use lib.Dec.{eqb}
 use Rattle.std.proofs.shelf.Lists.{map-push}
 use Rattle.std.proofs.shelf.Tests.{eqb-true}
+use Rattle.std.proofs.shelf.Elements.{all-push, all-weaker}
 use Rattle.disk.specs.Medium.{Block, Write, lay}
 use Rattle.head.specs.Head.{holds}
 use Rattle.journal_law.specs.Cache.{Begun, place-of, begun-place, different, find, without, collect}
 use Rattle.journal_law.specs.Ledger.{laid}
 use Rattle.std.specs.shelf.Lists.{All}
-use Rattle.journal_law.proofs.Media.{All-map, All-push}
 use Rattle.journal_law.proofs.Tables.{Before, Elsewhere, laid-more, holds-append, lay-collect, holds-collect, once-collect, below-collect, different-mono, find-in, all-without, apart-push, apart-without, apart-found, holds-found, holds-without, fresh-open}
 use Rattle.journal_law.proofs.Invariant.{Table}
 
@@ -23,7 +23,7 @@ in-either : (a b c d : Bool) → (a ≡ true → c ≡ true) → (b ≡ true →
 in-either true b c d f g h = subst (λ z. cond z true d ≡ true) (sym (f refl)) refl
 in-either false b c d f g h = g h
 
-either-right : (c d : Bool) → d ≡ true → cond c true d ≡ true
+pub either-right : (c d : Bool) → d ≡ true → cond c true d ≡ true
 either-right true d h = refl
 either-right false d h = h
 
@@ -112,13 +112,13 @@ module _ (n : ℕ) (open-writes finished : List Begun) (collected : List Write) 
       different n (w .place ∷ (map place-of collected ++ map begun-place open-writes)) ≤ 8 →
       Table n (open-writes ++ record { mark = suc counter; write = w } ∷ []) finished collected (suc counter)
   table-begin w l fresh room = record {
-    open-marks = All-push (λ (o : Begun). o .mark ≤ suc counter) open-writes new
-        (All-map (λ (o : Begun). o .mark ≤ counter) (λ (o : Begun). o .mark ≤ suc counter) (λ o h. omega arith) open-writes (t .open-marks)) (omega arith);
-    done-marks = All-map (λ (o : Begun). o .mark ≤ counter) (λ (o : Begun). o .mark ≤ suc counter) (λ o h. omega arith) finished (t .done-marks);
+    open-marks = all-push (λ (o : Begun). o .mark ≤ suc counter) open-writes new
+        (all-weaker (λ (o : Begun). o .mark ≤ counter) (λ (o : Begun). o .mark ≤ suc counter) (λ o h. omega arith) open-writes (t .open-marks)) (omega arith);
+    done-marks = all-weaker (λ (o : Begun). o .mark ≤ counter) (λ (o : Begun). o .mark ≤ suc counter) (λ o h. omega arith) finished (t .done-marks);
     apart = apart-push open-writes new (t .apart) (fresh-open (w .place) open-writes fresh);
-    later = All-push (λ (o : Begun). All (Before o) finished) open-writes new (t .later)
-        (All-map (λ (o : Begun). o .mark ≤ counter) (Before new) (λ o h _. omega arith) finished (t .done-marks));
-    open-inside = All-push (λ (o : Begun). o .write .place < n) open-writes new (t .open-inside) l;
+    later = all-push (λ (o : Begun). All (Before o) finished) open-writes new (t .later)
+        (all-weaker (λ (o : Begun). o .mark ≤ counter) (Before new) (λ o h _. omega arith) finished (t .done-marks));
+    open-inside = all-push (λ (o : Begun). o .write .place < n) open-writes new (t .open-inside) l;
     inside = t .inside;
     once = t .once;
     room = omega (arith, room, room-begin n open-writes collected new);
@@ -154,11 +154,11 @@ module _ (n : ℕ) (open-writes finished : List Begun) (collected : List Write) 
   pub table-finish : (ticket : ℕ) (o : Begun) → find ticket open-writes ≡ some o →
       Table n (without ticket open-writes) (o ∷ finished) (collect (o .write) collected) (suc counter)
   table-finish ticket o e = record {
-    open-marks = All-map (λ (x : Begun). x .mark ≤ counter) (λ (x : Begun). x .mark ≤ suc counter) (λ x h. omega arith) (without ticket open-writes)
+    open-marks = all-weaker (λ (x : Begun). x .mark ≤ counter) (λ (x : Begun). x .mark ≤ suc counter) (λ x h. omega arith) (without ticket open-writes)
         (all-without (λ (x : Begun). x .mark ≤ counter) ticket open-writes (t .open-marks));
     done-marks = (
       omega (arith, find-in (λ (x : Begun). x .mark ≤ counter) ticket open-writes o e (t .open-marks)),
-      All-map (λ (x : Begun). x .mark ≤ counter) (λ (x : Begun). x .mark ≤ suc counter) (λ x h. omega arith) finished (t .done-marks),
+      all-weaker (λ (x : Begun). x .mark ≤ counter) (λ (x : Begun). x .mark ≤ suc counter) (λ x h. omega arith) finished (t .done-marks),
     );
     apart = apart-without ticket open-writes (t .apart);
     later = both (without ticket open-writes) (apart-found ticket open-writes o e (t .apart)) (all-without (λ (x : Begun). All (Before x) finished) ticket open-writes (t .later));

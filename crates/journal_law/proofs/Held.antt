@@ -10,6 +10,7 @@ use lib.ListN.{length}
 use lib.Dec.{eqb, ltb, leb}
 use Rattle.std.proofs.shelf.Lists.{length-push, length-map}
 use Rattle.std.proofs.shelf.Tests.{eqb-true, not-false, ltb-false, leb-false, eq-eqb, lt-ltb}
+use Rattle.std.proofs.shelf.Elements.{all-push}
 use Rattle.disk.specs.Medium.{Block, Write, Entry, good, bad, due, Medium, size}
 use Rattle.disk.specs.Calls.{Fate, fate, served, failed, wrong-length, wrong-place, by-entry as fate-by}
 use Rattle.errors.specs.declared.CacheError.{CacheError}
@@ -21,7 +22,6 @@ use Rattle.journal_law.specs.Device.{Device}
 use Rattle.journal_law.specs.Cache.{Begun, Phase, slot, slots-flush, head, head-flush, home, homes-flush, empty, empty-flush, Group, Live, Call, begin, finish, withdraw, read, seal, step, restart, Answer, accepted, shown, refused, Outcome, place-of, begun-place, different, decided, begin-refusal, begun, find, without, collect, finished, withdrawn, cached, group-writes, read-shown, read-disk, read-refusal, is-some, seal-refusal, sealed, nth, group-head, phase-call, call-fate, next-phase, in-phase, step-met, stepped, group-restarted, outcome-in}
 use Rattle.journal_law.specs.Ledger.{Sealing, Under-way, Ledger}
 use Rattle.std.specs.shelf.Lists.{All}
-use Rattle.journal_law.proofs.Media.{All-push}
 use Rattle.journal_law.proofs.Forms.{Names}
 use Rattle.journal_law.proofs.Tables.{none-some, find-in, all-without}
 use Rattle.journal_law.proofs.Invariant.{In-phase, State, Invariant}
@@ -72,7 +72,7 @@ module _ (n : ℕ) (device : Device) (v : Live) (h : Held n v) where
           let new : Begun = record { mark = suc (v .counter); write = record { place = place; bytes = bytes } } in
           record {
             homed = h .homed;
-            opens = All-push Whole-begun (v .open-writes) new (h .opens) (eqb-true (length bytes) 512 (not-false (eqb (length bytes) 512) (e₁ .0)));
+            opens = all-push Whole-begun (v .open-writes) new (h .opens) (eqb-true (length bytes) 512 (not-false (eqb (length bytes) 512) (e₁ .0)));
             batch = h .batch;
             grouped = h .grouped;
             marks = omega (arith, ltb-false 1_000_000 (v .counter + length (v .open-writes) + 2) (e₅ .0), length-push (v .open-writes) new);

@@ -10,19 +10,12 @@ use lib.Dec.{eqb}
 use Rattle.std.proofs.shelf.Lists.{length-set, getD-set-same, getD-set-other}
 use Rattle.std.proofs.shelf.Tests.{cases-eq, eqb-true, eqb-false}
 use Rattle.std.specs.shelf.Lists.{All}
+use Rattle.std.proofs.shelf.Elements.{all-push, all-weaker}
 use Rattle.disk.specs.Medium.{Effect, Block, Write, lay, Medium, current, later, flushed, join, settle, allowed, take-effect, put, standing, cut}
 
 -- a good write by the disk's own effect
 abbrev pub wrote : Effect → Write → Medium → Medium
 wrote effect w m = put effect m w
-
-pub All-push : {A : Type 0} (P : A → Type 0) (xs : List A) (y : A) → All P xs → P y → All P (xs ++ (y ∷ []))
-All-push P [] y a q = (q, tt)
-All-push P (x ∷ xs) y a q = (a .0, All-push P xs y (a .1) q)
-
-pub All-map : {A : Type 0} (P Q : A → Type 0) → ((x : A) → P x → Q x) → (xs : List A) → All P xs → All Q xs
-All-map P Q f [] a = tt
-All-map P Q f (x ∷ xs) a = (f x (a .0), All-map P Q f xs (a .1))
 
 -- every block obeys the rule
 abbrev pub Obey : (ℕ → Block → Type 0) → List Block → Type 0
@@ -73,7 +66,7 @@ pub kept-mono : (size : ℕ) (Q R : ℕ → Block → Type 0) (m : Medium) → (
 kept-mono size Q R m f k = record {
   size-is = k .size-is;
   firm-ok = λ p l. f p (getD (m .firm) p []) (k .firm-ok p l);
-  loose-ok = All-map (Allowed Q) (Allowed R) (λ w h. f (w .place) (w .bytes) h) (m .loose) (k .loose-ok);
+  loose-ok = all-weaker (Allowed Q) (Allowed R) (λ w h. f (w .place) (w .bytes) h) (m .loose) (k .loose-ok);
 }
 
 pub length-current : (size : ℕ) (Q : ℕ → Block → Type 0) (m : Medium) → Keeps size Q m → length (current m) ≡ size
@@ -107,7 +100,7 @@ pub kept-wrote : (size : ℕ) (Q : ℕ → Block → Type 0) (effect : Effect) (
 kept-wrote size Q effect w m k h = go (allowed effect m)
   where
     all : All (Allowed Q) (m .loose ++ (w ∷ []))
-    all = All-push (Allowed Q) (m .loose) w (k .loose-ok) h
+    all = all-push (Allowed Q) (m .loose) w (k .loose-ok) h
 
     go : (e : Effect) → Keeps size Q (take-effect e m w)
     go settle = record {

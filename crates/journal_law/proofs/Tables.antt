@@ -9,12 +9,12 @@ use lib.ListN.{length, set}
 use lib.Dec.{eqb, ltb}
 use Rattle.std.proofs.shelf.Lists.{set-set, set-comm}
 use Rattle.std.proofs.shelf.Tests.{eqb-true, eqb-false, eq-eqb, ne-eqb, ltb-true, ltb-false, lt-ltb, and-parts, and-from, not-true, not-from-false, both-ways}
+use Rattle.std.proofs.shelf.Elements.{all-push, all-weaker}
 use Rattle.disk.specs.Medium.{Block, Write, lay}
 use Rattle.head.specs.Head.{holds, all-below, none-twice}
 use Rattle.journal_law.specs.Cache.{Begun, place-of, begun-place, different, find, without, collect}
 use Rattle.journal_law.specs.Ledger.{insert-by-mark, by-mark, write-of, laid}
 use Rattle.std.specs.shelf.Lists.{All}
-use Rattle.journal_law.proofs.Media.{All-map, All-push}
 
 -- writes that leave a place alone may be laid after a write at it
 pub lay-fresh : (ws : List Write) (bs : List Block) (q : ℕ) (b : Block) → All (λ (w : Write). w .place ≡ q → ⊥) ws →
@@ -48,7 +48,7 @@ sorted-insert o (x ∷ xs) s = go (ltb (x .mark) (o .mark)) refl (sorted-insert 
     go true e r = (all-insert (λ (y : Begun). x .mark ≤ y .mark) o xs (omega (arith, ltb-true (x .mark) (o .mark) e)) (s .0), r)
     go false e r =
         let l : o .mark ≤ x .mark = ltb-false (x .mark) (o .mark) e in
-        ((l, All-map (λ (y : Begun). x .mark ≤ y .mark) (λ (y : Begun). o .mark ≤ y .mark) (λ y h. omega arith) xs (s .0)), s)
+        ((l, all-weaker (λ (y : Begun). x .mark ≤ y .mark) (λ (y : Begun). o .mark ≤ y .mark) (λ y h. omega arith) xs (s .0)), s)
 
 pub sorted-by-mark : (xs : List Begun) → Sorted (by-mark xs)
 sorted-by-mark [] = tt
@@ -76,7 +76,7 @@ lay-insert o (x ∷ xs) bs s a = go (ltb (x .mark) (o .mark)) refl (lay-insert o
     go false e r =
         let l : o .mark ≤ x .mark = ltb-false (x .mark) (o .mark) e in
         lay-fresh (map write-of (x ∷ xs)) bs (o .write .place) (o .write .bytes)
-        (fresh-after o (x ∷ xs) (l, All-map (λ (y : Begun). x .mark ≤ y .mark) (λ (y : Begun). o .mark ≤ y .mark) (λ y h. omega arith) xs (s .0)) a)
+        (fresh-after o (x ∷ xs) (l, all-weaker (λ (y : Begun). x .mark ≤ y .mark) (λ (y : Begun). o .mark ≤ y .mark) (λ y h. omega arith) xs (s .0)) a)
 
 -- one more finished write, begun after all others at its place, is laid last
 pub laid-more : (opening : List Block) (o : Begun) (xs : List Begun) → All (Before o) xs →
@@ -261,7 +261,7 @@ Apart (o ∷ os) = All (Elsewhere o) os × Apart os
 
 pub apart-push : (os : List Begun) (o : Begun) → Apart os → All (Elsewhere o) os → Apart (os ++ o ∷ [])
 apart-push [] o a fresh = (tt, tt)
-apart-push (x ∷ os) o a fresh = (All-push (Elsewhere x) os o (a .0) (λ e. fresh .0 (sym e)), apart-push os o (a .1) (fresh .1))
+apart-push (x ∷ os) o a fresh = (all-push (Elsewhere x) os o (a .0) (λ e. fresh .0 (sym e)), apart-push os o (a .1) (fresh .1))
 
 pub apart-without : (ticket : ℕ) (os : List Begun) → Apart os → Apart (without ticket os)
 apart-without ticket [] a = tt

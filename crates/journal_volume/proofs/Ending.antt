@@ -12,6 +12,7 @@ use Rattle.std.specs.declared.result.Result.{Result}
 use Rattle.std.specs.declared.result.Result.the-variants.{Ok, Err}
 use Rattle.std.proofs.shelf.Lists.{length-replicate}
 use Rattle.std.proofs.shelf.Tests.{both-ways, cases-lt}
+use Rattle.std.proofs.shelf.Elements.{all-weaker}
 use Rattle.disk.specs.declared.error.Kind.{Kind}
 use Rattle.disk.specs.declared.error.DiskError.{DiskError}
 use Rattle.disk.specs.Medium.{Write, Effect, Entry, good, bad, Medium, size, due, standing, cut}
@@ -169,15 +170,11 @@ module _ (tries n : ℕ) (effect : Effect) (x : Recovery) where
       (λ (l : b ≤ a). ap (λ k. calls n (replicate k effect) x) (let q : a ≡ b + (a - b) = omega (arith, l) in q) ∙ longer b (a - b) f)
       (cases-lt a b)
 
-weaken : (P Q : Effect → Type 0) → ((e : Effect) → P e → Q e) → (es : List Effect) → All P es → All Q es
-weaken P Q f [] a = tt
-weaken P Q f (e ∷ es) a = (f e (a .0), weaken P Q f es (a .1))
-
 module _ (tries n : ℕ) (m m′ : Medium) where
   pub fixed-end : (By : Effect → Type 0) (r : Result ℕ VolumeError) (effect : Effect) → ((e : Effect) → By e → e ≡ effect) → Ends By tries n (started m) r m′ →
       (some r ≡ ended tries (calls n (replicate 21 effect) (started m) .stage)) × (m′ ≡ calls n (replicate 21 effect) (started m) .medium)
   fixed-end By r effect only e =
-      let es : e .effects ≡ replicate (length (e .effects)) effect = all-same effect (e .effects) (weaken By (λ x. x ≡ effect) only (e .effects) (e .by-rule)) in
+      let es : e .effects ≡ replicate (length (e .effects)) effect = all-same effect (e .effects) (all-weaker By (λ x. x ≡ effect) only (e .effects) (e .by-rule)) in
       let ended-here : is-some (ended tries (calls n (replicate (length (e .effects)) effect) (started m) .stage)) ≡ true
       = ap is-some (ap (λ l. ended tries (calls n l (started m) .stage)) (sym es) ∙ e .answers) in
       let ended-there : is-some (ended tries (calls n (replicate 21 effect) (started m) .stage)) ≡ true

@@ -6,10 +6,10 @@ use Prim.Native.Nat.{ℕ, _+_, _<_, _≤_}
 use native.Mathlib.Omega.{arith}
 use native.Mathlib.Numerals.{add-one}
 use lib.ListN.{length, getD}
-use Rattle.std.specs.shelf.Lists.{All}
 use Rattle.std.specs.declared.result.Result.{Result}
 use Rattle.std.specs.declared.result.Result.the-variants.{Ok, Err}
 use Rattle.std.proofs.shelf.Tests.{eq-eqb, ne-eqb, lt-ltb, le-ltb}
+use Rattle.std.proofs.shelf.Elements.{all-append}
 use Rattle.disk.specs.declared.error.Kind.{Kind}
 use Rattle.disk.specs.declared.error.Kind.the-variants as kind
 use Rattle.disk.specs.declared.error.DiskError.{DiskError}
@@ -58,10 +58,6 @@ module _ (tries : ℕ) (m : Medium) (r : Answer) (m′ : Medium) where
 pub calls-append : (n : ℕ) (xs ys : List Effect) (x : Recovery) → calls n (xs ++ ys) x ≡ calls n ys (calls n xs x)
 calls-append n [] ys x = refl
 calls-append n (s ∷ xs) ys x = calls-append n xs ys (one-call n s x)
-
-all-append : {X : Type 0} (P : X → Type 0) (xs ys : List X) → All P xs → All P ys → All P (xs ++ ys)
-all-append P [] ys a b = b
-all-append P (x ∷ xs) ys a b = (a .0, all-append P xs ys (a .1) b)
 
 -- no call changes the size
 good-size : (n : ℕ) (effect : Effect) (s : Stage) (m : Medium) → size (good-call n effect m s .medium) ≡ size m
