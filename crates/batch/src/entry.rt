@@ -34,7 +34,7 @@ pub enum Query {
 }
 
 impl Query {
-    pub fn passes(self, entry: &Entry) -> bool
+    pub(crate) fn passes(self, entry: &Entry) -> bool
         ensures { λ r. ⌜ r ≡ test self (now (entry .entry)) ⌝ }
     {
         match self {

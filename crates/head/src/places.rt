@@ -3,7 +3,7 @@ ghost use mathlib.Core.Path.{_≡_};
 ghost use Rattle.head.specs.Head.{holds, all-below, none-twice};
 
 // Is the place among these?
-pub fn is_among(place: usize, places: &[usize]) -> bool
+pub(crate) fn is_among(place: usize, places: &[usize]) -> bool
     ensures { λ r. ⌜ r ≡ holds place (now (places .entry)) ⌝ }
 {
     for p in places {
@@ -14,7 +14,7 @@ pub fn is_among(place: usize, places: &[usize]) -> bool
     false
 }
 
-pub fn are_below(places: &[usize], home: usize) -> bool
+pub(crate) fn are_below(places: &[usize], home: usize) -> bool
     ensures { λ r. ⌜ r ≡ all-below home (now (places .entry)) ⌝ }
 {
     for p in places {
@@ -25,7 +25,7 @@ pub fn are_below(places: &[usize], home: usize) -> bool
     true
 }
 
-pub fn are_different(places: &[usize]) -> bool
+pub(crate) fn are_different(places: &[usize]) -> bool
     ensures { λ r. ⌜ r ≡ none-twice (now (places .entry)) ⌝ }
 {
     for i in 0..places.len() {

@@ -14,7 +14,7 @@ use head::codec::decode;
 use head::head::Head;
 
 // Flushes, and reads the head.
-pub fn take_head<D: Disk>(disk: &mut D, home: usize) -> Result<Option<Head>, DiskError>
+pub(crate) fn take_head<D: Disk>(disk: &mut D, home: usize) -> Result<Option<Head>, DiskError>
     requires { ⌜ size (medium (now disk)) ≡ home + 9 ⌝ }
     ensures { λ r. ⌜ Sees (Of-rule rule) attempts home (medium (now (disk .entry))) r (medium (now (disk .exit))) ⌝ }
 {
@@ -25,7 +25,7 @@ pub fn take_head<D: Disk>(disk: &mut D, home: usize) -> Result<Option<Head>, Dis
 }
 
 // Reads a slot and writes it to its home place.
-pub fn copy_slot<D: Disk>(disk: &mut D, home: usize, head: &Head, i: usize) -> Result<(), DiskError>
+pub(crate) fn copy_slot<D: Disk>(disk: &mut D, home: usize, head: &Head, i: usize) -> Result<(), DiskError>
     requires sized { ⌜ size (medium (now disk)) ≡ home + 9 ⌝ }
     requires room { ⌜ home ≤ 4087 ⌝ }
     requires fit { ⌜ fitting home (head-of (now head)) ≡ true ⌝ }
@@ -38,7 +38,7 @@ pub fn copy_slot<D: Disk>(disk: &mut D, home: usize, head: &Head, i: usize) -> R
 }
 
 // Copies every slot home, in turn.
-pub fn copy_slots<D: Disk>(disk: &mut D, home: usize, head: &Head) -> Result<(), DiskError>
+pub(crate) fn copy_slots<D: Disk>(disk: &mut D, home: usize, head: &Head) -> Result<(), DiskError>
     requires sized { ⌜ size (medium (now disk)) ≡ home + 9 ⌝ }
     requires room { ⌜ home ≤ 4087 ⌝ }
     requires fit { ⌜ fitting home (head-of (now head)) ≡ true ⌝ }
@@ -51,7 +51,7 @@ pub fn copy_slots<D: Disk>(disk: &mut D, home: usize, head: &Head) -> Result<(),
 }
 
 // Flushes, writes the empty head, and flushes.
-pub fn clear<D: Disk>(disk: &mut D, home: usize, head: &Head) -> Result<(), DiskError>
+pub(crate) fn clear<D: Disk>(disk: &mut D, home: usize, head: &Head) -> Result<(), DiskError>
     requires { ⌜ size (medium (now disk)) ≡ home + 9 ⌝ }
     ensures { λ r. ⌜ Goes (Of-rule rule) attempts home (at (home-flush (head-of (now (head .entry)))) (medium (now (disk .entry)))) (recovered (now (head .entry) .number)) r (medium (now (disk .exit))) ⌝ }
 {
@@ -62,7 +62,7 @@ pub fn clear<D: Disk>(disk: &mut D, home: usize, head: &Head) -> Result<(), Disk
 }
 
 // Brings a group home, if the head names one.
-pub fn restore<D: Disk>(disk: &mut D, home: usize, head: &Head) -> Result<(), DiskError>
+pub(crate) fn restore<D: Disk>(disk: &mut D, home: usize, head: &Head) -> Result<(), DiskError>
     requires sized { ⌜ size (medium (now disk)) ≡ home + 9 ⌝ }
     requires room { ⌜ home ≤ 4087 ⌝ }
     requires fit { ⌜ fitting home (head-of (now head)) ≡ true ⌝ }
