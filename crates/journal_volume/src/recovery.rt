@@ -25,7 +25,12 @@ pub(crate) fn take_head<D: Disk>(disk: &mut D, home: usize) -> Result<Option<Hea
 }
 
 // Reads a slot and writes it to its home place.
-pub(crate) fn copy_slot<D: Disk>(disk: &mut D, home: usize, head: &Head, i: usize) -> Result<(), DiskError>
+pub(crate) fn copy_slot<D: Disk>(
+    disk: &mut D,
+    home: usize,
+    head: &Head,
+    i: usize,
+) -> Result<(), DiskError>
     requires sized { ⌜ size (medium (now disk)) ≡ home + 9 ⌝ }
     requires room { ⌜ home ≤ 4087 ⌝ }
     requires fit { ⌜ fitting home (head-of (now head)) ≡ true ⌝ }
