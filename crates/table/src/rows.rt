@@ -92,7 +92,10 @@ impl Table {
         ensures room { λ _. ⌜ length (in-rows (now (self .exit) .rows)) + leaving change (in-rows (now (self .entry) .rows)) ≤ length (in-rows (now (self .entry) .rows)) ⌝ }
     {
         for i in 0..ROWS {
-            self.rows[i] = change.on(self.rows[i]);
+            // a row is 552 bytes, and most are not touched
+            if change.touches(&self.rows[i]) {
+                self.rows[i] = change.on(self.rows[i]);
+            }
         }
     }
 }
