@@ -14,7 +14,6 @@ use disk::error::FaultPartialEq;
 use disk::error::Kind;
 use errors::CacheCall;
 use errors::CacheError;
-use errors::CacheErrorDebug;
 use errors::CacheErrorPartialEq;
 use memdisk::held::HeldDiskBench;
 use memdisk::held::HeldDiskDisk;

@@ -4,7 +4,9 @@ use crate::route::Route;
 use crate::trial_error::TrialError;
 use crate::trial_error::TrialErrorFromCache;
 use crate::trial_error::TrialErrorFromIo;
-use std::alloc::Global;
+
+// The number of a disk's fault, which a drain outlives.
+const FAULT: u8 = 7;
 
 // No drain of the trial is longer.
 const MOST_STEPS: u32 = 32;
@@ -59,7 +61,7 @@ fn drained<R: Route>(cache: &mut R) -> Result<u32, TrialError> {
         match cache.go_on() {
             Ok(0) => return Ok(steps),
             Ok(_) => {}
-            Err(error) if error.number() == 7 => {}
+            Err(error) if error.number() == FAULT => {}
             Err(error) => return Err(error.into()),
         }
     }

@@ -11,7 +11,6 @@ use crate::trial_error::TrialErrorFromDisk;
 use crate::trial_error::TrialErrorFromUnusable;
 use crate::trial_error::TrialErrorFromVolume;
 use disk::disk::BLOCK;
-use disk::disk::Disk;
 use errors::CacheError;
 use journal::live::Live as JournaledCache;
 use journal_volume::cold::Cold as JournalVolume;
