@@ -6,9 +6,9 @@ use disk::error::DiskError;
 use mark::Mark;
 
 // The places of a mark's two blocks.
-const SIDE: usize = 0;
+pub(crate) const SIDE: usize = 0;
 
-const DISTANCE: usize = 1;
+pub(crate) const DISTANCE: usize = 1;
 
 #[derive(Clone, Copy)]
 pub enum Act {
@@ -18,7 +18,7 @@ pub enum Act {
 }
 
 impl Act {
-    fn on<D: Disk>(self, disk: &mut D, mark: &Mark) -> Result<(), DiskError> {
+    pub(crate) fn on<D: Disk>(self, disk: &mut D, mark: &Mark) -> Result<(), DiskError> {
         match self {
             Act::Side => disk.write(SIDE, &mark.side_block()),
             Act::Distance => disk.write(DISTANCE, &mark.distance_block()),

@@ -1,22 +1,33 @@
 // What a power cut does to a mark of two blocks, told in words.
 mod acts;
+mod cached;
+mod count;
+mod route;
 mod trial_error;
 
 use acts::Act;
 use acts::seen_after;
+use cached::every_cut;
+use cached::tell_drain;
+use count::Count;
+use count::NEW;
+use count::OLD;
 use disk::disk::BenchDisk;
+use journal::live::Live as JournaledCache;
 use mark::Mark;
 use mark::MarkDisplay;
-use mark::Side;
 use mark::SidePartialEq;
 use mark::Verdict;
-use mark::VerdictPartialEq;
 use memdisk::held::HeldDisk;
 use memdisk::held::HeldDiskBench;
 use memdisk::held::HeldDiskDisk;
 use memdisk::through::ThroughDisk;
 use memdisk::through::ThroughDiskBench;
 use memdisk::through::ThroughDiskDisk;
+use ordered::live::Live as OrderedCache;
+use precedence::Overlap;
+use route::JournaledRoute;
+use route::OrderedRoute;
 use std::alloc::Global;
 use trial_error::TrialError;
 use trial_error::TrialErrorFromAlloc;
@@ -24,22 +35,10 @@ use trial_error::TrialErrorFromDisk;
 use trial_error::TrialErrorFromIo;
 use trial_error::TrialErrorFromUnusable;
 
-const OLD: Mark = Mark {
-    side: Side::Downstream,
-    millimetres: 2150,
-};
+// Three faults on the way: the plan's first entries go into the old mark and the opening, or the format and the recovery.
+const ORDERED_FAULTS: [u8; 8] = [0, 0, 0, 0, 1, 0, 1, 1];
 
-const NEW: Mark = Mark {
-    side: Side::Upstream,
-    millimetres: 400,
-};
-
-// How many cuts were tried, and how many of them tore the mark.
-#[derive(Clone, Copy)]
-struct Count {
-    cuts: u32,
-    torn: u32,
-}
+const GROUP_FAULTS: [u8; 11] = [0, 0, 0, 0, 0, 0, 0, 1, 0, 1, 1];
 
 fn held(heap: Global) -> Result<HeldDisk, TrialError> {
     let disk = HeldDisk::new(vec![in heap; 0; 1024]?, Vec::new(heap))?;
@@ -64,18 +63,12 @@ fn tell(rt: &LibcRuntime, choice: u8, seen: &Mark, count: Count) -> Result<Count
         rt,
         "  cut {choice}: side {side}, distance {distance}: reads {seen}"
     )?;
-    let verdict = seen.judge(&OLD, &NEW);
-    match verdict {
+    match seen.judge(&OLD, &NEW) {
         Verdict::Old => println!(rt, ", the old mark")?,
         Verdict::New => println!(rt, ", the new mark")?,
         Verdict::Torn => println!(rt, " for {NEW}, TORN")?,
     }
-    Ok(Count {
-        cuts: count.cuts.saturating_add(1),
-        torn: count
-            .torn
-            .saturating_add(u32::from(verdict == Verdict::Torn)),
-    })
+    Ok(count.seeing(seen))
 }
 
 // Every cut below `choices` after these acts, each on a held disk of its own.
@@ -107,37 +100,79 @@ fn on_through(
     tell(rt, 0, &seen, count)
 }
 
-fn main(rt: LibcRuntime) -> Result<(), TrialError> {
-    let none = Count { cuts: 0, torn: 0 };
-    println!(
-        rt,
-        "A mark is two blocks: the side of the weld, and the distance off it."
-    )?;
-    println!(rt, "The old mark is {OLD}, and {NEW} is written over it.")?;
+// The bare disks.
+fn without_cache(rt: &LibcRuntime) -> Result<Count, TrialError> {
     let both = [Act::Side, Act::Distance];
     let apart = [Act::Side, Act::Flush, Act::Distance];
     let first = [Act::Side];
-    let count = on_held(&rt, "Held disk, both written:", &both, 4, none)?;
-    let count = on_held(&rt, "Held disk, a flush between the two:", &apart, 2, count)?;
+    let count = on_held(rt, "Held disk, both written:", &both, 4, Count::none())?;
+    let count = on_held(rt, "Held disk, a flush between the two:", &apart, 2, count)?;
     let count = on_held(
-        &rt,
+        rt,
         "Held disk, power fails between the two:",
         &first,
         2,
         count,
     )?;
-    let count = on_through(&rt, "Through disk, both written:", &both, count)?;
-    let count = on_through(
-        &rt,
+    let count = on_through(rt, "Through disk, both written:", &both, count)?;
+    on_through(
+        rt,
         "Through disk, power fails between the two:",
         &first,
         count,
+    )
+}
+
+// The caches, each over a held disk.
+fn with_caches(rt: &LibcRuntime) -> Result<(), TrialError> {
+    println!(
+        rt,
+        "Ordered cache, the distance begun once the side is finished:"
     )?;
+    let count = every_cut::<OrderedCache<HeldDisk, Overlap>>(rt)?;
+    sum_up(rt, count, "the order holds, and two writes are not one")?;
+    println!(rt, "Journaled cache, both in one group:")?;
+    let count = every_cut::<JournaledCache<HeldDisk>>(rt)?;
+    sum_up(rt, count, "a group comes whole or not at all")
+}
+
+fn sum_up(rt: &LibcRuntime, count: Count, lesson: &str) -> Result<(), TrialError> {
     let torn = count.torn;
-    let cuts = count.cuts;
+    let ahead = count.ahead;
+    let cuts = count.cuts();
+    println!(
+        rt,
+        "{torn} of {cuts} cuts tore the mark, {ahead} showed the distance without the side: {lesson}."
+    )?;
+    Ok(())
+}
+
+fn drains(rt: &LibcRuntime) -> Result<(), TrialError> {
+    println!(rt, "Longest drains seen, each beside its bound:")?;
+    tell_drain::<OrderedCache<HeldDisk, Overlap>>(rt, "ordered, two writes and no fault", &[], 0)?;
+    tell_drain::<OrderedCache<HeldDisk, Overlap>>(
+        rt,
+        "ordered, two writes and three faults",
+        &ORDERED_FAULTS,
+        3,
+    )?;
+    tell_drain::<JournaledCache<HeldDisk>>(rt, "group of two, no fault", &[], 0)?;
+    tell_drain::<JournaledCache<HeldDisk>>(rt, "group of two, three faults", &GROUP_FAULTS, 3)
+}
+
+fn main(rt: LibcRuntime) -> Result<(), TrialError> {
+    println!(
+        rt,
+        "A mark is two blocks: the side of the weld, and the distance off it."
+    )?;
+    println!(rt, "The old mark is {OLD}, and {NEW} is written over it.")?;
+    let count = without_cache(&rt)?;
+    let torn = count.torn;
+    let cuts = count.cuts();
     println!(
         rt,
         "{torn} of {cuts} cuts tore the mark: a flush orders two blocks, and does not make them one."
     )?;
-    Ok(())
+    with_caches(&rt)?;
+    drains(&rt)
 }

@@ -1,4 +1,6 @@
 use disk::error::DiskError;
+use errors::CacheError;
+use errors::VolumeError;
 use memdisk::unusable::Unusable;
 use std::alloc::AllocError;
 use std::io;
@@ -7,6 +9,10 @@ use std::io;
 #[derive(Drop)]
 pub enum TrialError {
     Disk(DiskError),
+    Volume(VolumeError),
+    Cache(CacheError),
+    // a drain that goes on and on
+    Endless,
     Unusable(Unusable),
     Memory,
     Output(io::Error),
@@ -15,6 +21,18 @@ pub enum TrialError {
 pub impl From<DiskError> for TrialError as TrialErrorFromDisk {
     fn from(error: DiskError) -> TrialError {
         TrialError::Disk(error)
+    }
+}
+
+pub impl From<VolumeError> for TrialError as TrialErrorFromVolume {
+    fn from(error: VolumeError) -> TrialError {
+        TrialError::Volume(error)
+    }
+}
+
+pub impl From<CacheError> for TrialError as TrialErrorFromCache {
+    fn from(error: CacheError) -> TrialError {
+        TrialError::Cache(error)
     }
 }
 
