@@ -1,5 +1,5 @@
 use Prim.Native.Nat.{_-_, _≤_}
-use Rattle.player.proofs.read_input.Given as given
+use Rattle.input.proofs.read_input.Given as given
 
 abbrev pub Inv-loop-length : given.InvT-loop-length
 Inv-loop-length l = l .length ≤ 4264

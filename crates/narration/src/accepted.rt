@@ -1,0 +1,50 @@
+ghost use mathlib.Core.Path.{_≡_};
+ghost use Rattle.std.specs.declared.option.Option.the-variants.{Some};
+ghost use Rattle.narration.specs.Words.{step-word, accepted-text};
+use std::fmt;
+use trace::call::Mode;
+use trace::call::TraceCall;
+
+// What a step did, by its answer.
+fn step_word(answer: u32) -> &'static str
+    ensures { λ r. ⌜ now r ≡ step-word answer ⌝ }
+{
+    match answer {
+        0 => "idle",
+        1 => "written",
+        2 => "flushed",
+        _ => "blocked",
+    }
+}
+
+// What an accepted call answered.
+#[derive(Clone, Copy)]
+pub(crate) struct Accepted {
+    pub mode: Mode,
+    pub call: TraceCall,
+    pub value: u32,
+}
+
+pub(crate) impl fmt::Display for Accepted as AcceptedDisplay {
+    ghost shown = { λ a. Some (accepted-text (a .mode) (a .call) (a .value)) };
+
+    fn fmt<W: fmt::Write>(&self, f: &mut fmt::Formatter<W>) -> fmt::Result {
+        let value = self.value;
+        match self.call {
+            TraceCall::Begin { place: _, fill: _ } => write!(f, "ticket {value}"),
+            TraceCall::Finish { ticket: _ } => write!(f, "mark {value}"),
+            TraceCall::Withdraw { ticket: _ } => write!(f, "gone"),
+            TraceCall::Read { place: _ } => write!(f, "first byte {value}"),
+            TraceCall::Step => {
+                let word = step_word(value);
+                write!(f, "{word}")
+            }
+            TraceCall::Seal => write!(f, "group {value}"),
+            TraceCall::Restart { choice: _ } => write!(f, "cut and started again"),
+            TraceCall::Cut { choice: _ } => match self.mode {
+                Mode::Journaled => write!(f, "recovered group {value}"),
+                _ => write!(f, "opened again"),
+            },
+        }
+    }
+}

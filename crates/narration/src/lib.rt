@@ -1,0 +1,5 @@
+// A play told in words.
+mod accepted;
+mod asked;
+mod reason;
+pub mod told;
