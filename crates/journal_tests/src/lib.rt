@@ -6,6 +6,8 @@ mod faults;
 #[cfg(test)]
 mod groups;
 #[cfg(test)]
+mod mixed;
+#[cfg(test)]
 mod reads;
 #[cfg(test)]
 mod recoveries;
