@@ -10,6 +10,8 @@ use Rattle.trace.specs.declared.call.Mode.{Mode}
 use Rattle.trace.specs.declared.call.Mode.the-variants as mode
 use Rattle.trace.specs.declared.call.TraceCall.{TraceCall}
 use Rattle.trace.specs.declared.call.TraceCall.the-variants.{Begin, Finish, Withdraw, Read, Step, Seal, Restart, Cut}
+use Rattle.narration.specs.declared.deed.Deed.{Deed}
+use Rattle.narration.specs.declared.deed.Deed.the-variants as deed
 use Rattle.listing.specs.declared.line.Line.{Line}
 
 -- what a call asks for
@@ -23,9 +25,21 @@ asked-text Seal = codes "seal"
 asked-text (Restart choice) = codes "restart, choice " ++ decimal choice
 asked-text (Cut choice) = codes "cut, choice " ++ decimal choice
 
--- what a step did, by its answer
+-- what a step wrote
+abbrev pub deed-text : Deed → List ℕ
+deed-text (deed.Place place) = codes "place " ++ decimal place
+deed-text (deed.Slot slot) = codes "slot " ++ decimal slot
+deed-text deed.Head = codes "the head"
+deed-text deed.EmptyHead = codes "the empty head"
+deed-text deed.Unseen = codes "a block"
+
+-- what a step did that wrote nothing, by its answer
 abbrev pub step-word : ℕ → List ℕ
-step-word answer = getD (codes "idle" ∷ (codes "written" ∷ (codes "flushed" ∷ []))) answer (codes "blocked")
+step-word answer = cond (eqb answer 0) (codes "idle") (cond (eqb answer 2) (codes "flushed") (codes "blocked"))
+
+-- what a step did
+abbrev pub step-text : ℕ → Deed → List ℕ
+step-text answer d = cond (eqb answer 1) (codes "wrote " ++ deed-text d) (step-word answer)
 
 -- what follows a cut: only the journaled cache recovers a group
 abbrev pub cut-text : Mode → ℕ → List ℕ
@@ -34,15 +48,15 @@ cut-text mode.Line value = codes "opened again"
 cut-text mode.Journaled value = codes "recovered group " ++ decimal value
 
 -- what an accepted call answered
-abbrev pub accepted-text : Mode → TraceCall → ℕ → List ℕ
-accepted-text m (Begin place fill) value = codes "ticket " ++ decimal value
-accepted-text m (Finish ticket) value = codes "mark " ++ decimal value
-accepted-text m (Withdraw ticket) value = codes "gone"
-accepted-text m (Read place) value = codes "first byte " ++ decimal value
-accepted-text m Step value = step-word value
-accepted-text m Seal value = codes "group " ++ decimal value
-accepted-text m (Restart choice) value = codes "cut and started again"
-accepted-text m (Cut choice) value = cut-text m value
+abbrev pub accepted-text : Mode → TraceCall → ℕ → Deed → List ℕ
+accepted-text m (Begin place fill) value d = codes "ticket " ++ decimal value
+accepted-text m (Finish ticket) value d = codes "mark " ++ decimal value
+accepted-text m (Withdraw ticket) value d = codes "gone"
+accepted-text m (Read place) value d = codes "first byte " ++ decimal value
+accepted-text m Step value d = step-text value d
+accepted-text m Seal value d = codes "group " ++ decimal value
+accepted-text m (Restart choice) value d = codes "cut and started again"
+accepted-text m (Cut choice) value d = cut-text m value
 
 -- why a seal was refused
 abbrev pub seal-reason : ℕ → List ℕ
@@ -74,5 +88,5 @@ refused-text l =
     (codes "refused " ++ (decimal (l .answer) ++ (codes ", " ++ reason-of (l .answer))))
 
 -- a call and what became of it
-abbrev pub told-text : Mode → TraceCall → Line → List ℕ
-told-text m call l = asked-text call ++ (codes ": " ++ cond (eqb (l .answer) 0) (accepted-text m call (l .value)) (refused-text l))
+abbrev pub told-text : Mode → TraceCall → Line → Deed → List ℕ
+told-text m call l d = asked-text call ++ (codes ": " ++ cond (eqb (l .answer) 0) (accepted-text m call (l .value) d) (refused-text l))

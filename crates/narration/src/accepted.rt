@@ -1,19 +1,25 @@
 ghost use mathlib.Core.Path.{_≡_};
 ghost use Rattle.std.specs.declared.option.Option.the-variants.{Some};
 ghost use Rattle.narration.specs.Words.{step-word, accepted-text};
+use crate::deed::Deed;
+use crate::deed::DeedDisplay;
 use std::fmt;
 use trace::call::Mode;
 use trace::call::TraceCall;
 
-// What a step did, by its answer.
+// The answer of a step that wrote.
+const WRITTEN: u32 = 1;
+
+// What a step did that wrote nothing, by its answer.
 fn step_word(answer: u32) -> &'static str
     ensures { λ r. ⌜ now r ≡ step-word answer ⌝ }
 {
-    match answer {
-        0 => "idle",
-        1 => "written",
-        2 => "flushed",
-        _ => "blocked",
+    if answer == 0 {
+        "idle"
+    } else if answer == 2 {
+        "flushed"
+    } else {
+        "blocked"
     }
 }
 
@@ -23,10 +29,11 @@ pub(crate) struct Accepted {
     pub mode: Mode,
     pub call: TraceCall,
     pub value: u32,
+    pub deed: Deed,
 }
 
 pub(crate) impl fmt::Display for Accepted as AcceptedDisplay {
-    ghost shown = { λ a. Some (accepted-text (a .mode) (a .call) (a .value)) };
+    ghost shown = { λ a. Some (accepted-text (a .mode) (a .call) (a .value) (a .deed)) };
 
     fn fmt<W: fmt::Write>(&self, f: &mut fmt::Formatter<W>) -> fmt::Result {
         let value = self.value;
@@ -35,6 +42,10 @@ pub(crate) impl fmt::Display for Accepted as AcceptedDisplay {
             TraceCall::Finish { ticket: _ } => write!(f, "mark {value}"),
             TraceCall::Withdraw { ticket: _ } => write!(f, "gone"),
             TraceCall::Read { place: _ } => write!(f, "first byte {value}"),
+            TraceCall::Step if value == WRITTEN => {
+                let deed = self.deed;
+                write!(f, "wrote {deed}")
+            }
             TraceCall::Step => {
                 let word = step_word(value);
                 write!(f, "{word}")

@@ -1,5 +1,6 @@
 // A play told in words.
 mod accepted;
 mod asked;
+pub mod deed;
 mod reason;
 pub mod told;

@@ -4,6 +4,7 @@ use crate::accepted::Accepted;
 use crate::accepted::AcceptedDisplay;
 use crate::asked::Asked;
 use crate::asked::AskedDisplay;
+use crate::deed::Deed;
 use crate::reason::reason;
 use listing::line::Line;
 use std::fmt;
@@ -19,10 +20,12 @@ pub struct Told {
     pub mode: Mode,
     pub call: TraceCall,
     pub line: Line,
+    // what the call wrote, if it is a step that wrote
+    pub deed: Deed,
 }
 
 pub impl fmt::Display for Told as ToldDisplay {
-    ghost shown = { λ t. Some (told-text (t .mode) (t .call) (t .line)) };
+    ghost shown = { λ t. Some (told-text (t .mode) (t .call) (t .line) (t .deed)) };
 
     fn fmt<W: fmt::Write>(&self, f: &mut fmt::Formatter<W>) -> fmt::Result {
         let asked = Asked { call: self.call };
@@ -33,6 +36,7 @@ pub impl fmt::Display for Told as ToldDisplay {
                 mode: self.mode,
                 call: self.call,
                 value,
+                deed: self.deed,
             };
             write!(f, "{asked}: {accepted}")
         } else if answer == FAULT {
