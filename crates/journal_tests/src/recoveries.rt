@@ -7,6 +7,9 @@ use crate::tools::live;
 use crate::tools::play;
 use crate::tools::recover;
 use crate::tools::recovered;
+use disk::disk::BLOCK;
+use disk::disk::Disk;
+use disk::error::DiskErrorDebug;
 use journal_volume::cold::Cold;
 use memdisk::held::HeldDiskBench;
 use memdisk::held::HeldDiskDisk;
@@ -77,4 +80,22 @@ fn broken_off_at_each_call_then_completed(rt: LibcRuntime) -> Result<(), Fail> {
         broken_off(rt.alloc(), &plan)?;
     }
     Ok(())
+}
+
+// A head of the last number, laid down by hand: nothing collected comes before no number left.
+#[test]
+fn the_last_number_seals_no_more(rt: LibcRuntime) -> Result<(), Fail> {
+    let mut head = [0; BLOCK];
+    head[0] = 1;
+    head[1] = 255;
+    head[2] = 255;
+    head[3] = 255;
+    head[4] = 255;
+    let mut disk = held(rt.alloc(), 10, &[])?;
+    disk.write(1, &head)?;
+    let mut cache = recovered(Cold::new(disk), 4_294_967_295)?;
+    play(
+        &mut cache,
+        &[(Seal, 108), (Begin(0, 5), 1), (Finish(1), 2), (Seal, 110)],
+    )
 }
