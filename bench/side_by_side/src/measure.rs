@@ -46,11 +46,11 @@ fn times(work: &Workload) -> Times {
 }
 
 pub fn table() {
-    println!("{:<32}{:>12}{:>12}{:>8}{:>14}{:>8}", "workload", "proved us", "twin us", "ratio", "proved ns/call", "noise");
+    println!("{:<32}{:>12}{:>12}{:>8}{:>16}{:>8}", "workload", "proved us", "twin us", "ratio", "proved ns/call", "noise");
     for work in workload::all() {
         let t = times(&work);
         println!(
-            "{:<32}{:>12.1}{:>12.1}{:>8.2}{:>14.0}{:>8.2}",
+            "{:<32}{:>12.1}{:>12.1}{:>8.2}{:>16.0}{:>8.2}",
             work.name,
             t.proved / 1_000.0,
             t.twin / 1_000.0,
