@@ -1,4 +1,6 @@
 // Assembles the text on standard input: the trace goes to standard output, a mistake to standard error.
+#![tactic(auto)]
+
 use anyhow::anyhow;
 use assembly::assembling::{TEXT_MAX, assemble_bytes};
 use assembly::mistake::AssemblyError;

@@ -1,4 +1,6 @@
 // Traces from text: a statement a line, with comments.
+#![tactic(auto)]
+
 mod arguments;
 pub mod assembling;
 mod keywords;

@@ -1,4 +1,6 @@
 // The player for C and Rust: a trace in, its listing into the caller's buffer; and a drain of a full table, for timing.
+#![tactic(auto)]
+
 ghost use Rattle.capi.specs.Buffers.{Written, Drained};
 
 use drain::drain;

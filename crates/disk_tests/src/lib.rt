@@ -1,4 +1,6 @@
 // Examples of the disks and of the retry layer.
+#![tactic(auto)]
+
 #[cfg(test)]
 mod cuts;
 #[cfg(test)]

@@ -1,4 +1,6 @@
 // A full table of 32 writes, drained again and again: the cache and its disk at work, with no trace to decode and no text to write.
+#![tactic(auto)]
+
 ghost use Rattle.std.specs.Prelude.{◌≡◌, ◌*◌, ◌<◌, ◌≤◌, min, map, length, IfOk, filter};
 ghost use Rattle.std.specs.List.{range_with_len};
 ghost use Rattle.drain.specs.Drains.{drain_call, drain_calls, is_written, drained};

@@ -1,4 +1,6 @@
 // Why a volume or a cache refuses. Each error holds the one of the layer below, so that a disk's fault comes up whole.
+#![tactic(auto)]
+
 ghost use Rattle.std.specs.Prelude.{◌≡◌};
 ghost use Rattle.errors.specs.Errors.{from_disk, raised, volume_number, cache_number};
 

@@ -1,4 +1,6 @@
 // Plays the trace on standard input and tells the play in words, one line a call.
+#![tactic(auto)]
+
 use input::{ROOM, read_input};
 use narration::told::Told;
 use play::play::play;

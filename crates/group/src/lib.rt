@@ -1,4 +1,6 @@
 // The sealed group: its phases, and the disk call of each.
+#![tactic(auto)]
+
 pub mod group;
 pub mod making;
 pub mod phase;

@@ -1,4 +1,6 @@
 // The input of the programs that take a trace.
+#![tactic(auto)]
+
 ghost use Rattle.std.specs.Prelude.{◌≤◌, IfOk};
 
 use std::io;

@@ -1,4 +1,6 @@
 // The journaled write-back cache over any bench disk.
+#![tactic(auto)]
+
 pub mod calls;
 pub mod live;
 pub mod opening;

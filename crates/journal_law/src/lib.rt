@@ -1,2 +1,4 @@
 // The laws of the journal volume and of the journaled cache.
+#![tactic(auto)]
+
 pub mod laws;

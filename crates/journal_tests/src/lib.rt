@@ -1,4 +1,6 @@
 // Examples of the journal volume and of the journaled cache.
+#![tactic(auto)]
+
 #[cfg(test)]
 mod begins;
 #[cfg(test)]

@@ -1,4 +1,6 @@
 // The listing of a play: a line for each call.
+#![tactic(auto)]
+
 pub mod line;
 pub mod play_error;
 pub mod text;

@@ -1,4 +1,6 @@
 // A mark of a survey lies in two blocks: the side of the weld, and the distance off it.
+#![tactic(auto)]
+
 ghost use Rattle.std.specs.Prelude.{◌≡◌};
 ghost use Rattle.mark.specs.Marks.{side_bytes, distance_bytes, mark_in, judged, ReadsBack};
 

@@ -1,4 +1,6 @@
 // Bench disks in memory: one that holds writes loose, one that settles each at once.
+#![tactic(auto)]
+
 mod blocks;
 pub mod held;
 mod laying;

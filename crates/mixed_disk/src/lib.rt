@@ -1,4 +1,6 @@
 // A disk with a mixed rule, to show that the caches hold over any disk: writes at even places join, those at odd places settle. It never fails.
+#![tactic(auto)]
+
 ghost use Rattle.std.specs.Prelude.{◌≡◌, true, false, [], length, MatchResult};
 ghost use Rattle.memdisk.specs.Making.{usable, fresh};
 ghost use Rattle.memdisk.specs.Parts.{medium_of, held_in, plan_of};

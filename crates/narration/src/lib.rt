@@ -1,4 +1,6 @@
 // A play told in words.
+#![tactic(auto)]
+
 mod accepted;
 mod asked;
 pub mod deed;

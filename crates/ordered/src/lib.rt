@@ -1,4 +1,6 @@
 // The ordered write-back cache over any bench disk, under any precedence.
+#![tactic(auto)]
+
 pub mod calls;
 pub mod cold;
 pub mod live;

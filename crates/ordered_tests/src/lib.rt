@@ -1,4 +1,6 @@
 // Examples of the ordered cache.
+#![tactic(auto)]
+
 #[cfg(test)]
 mod begins;
 #[cfg(test)]

@@ -1,4 +1,6 @@
 // Plays a trace and tells what each call answered.
+#![tactic(auto)]
+
 mod blank;
 mod in_journal;
 mod in_order;

@@ -1,4 +1,6 @@
 // Plays the trace on standard input; the listing goes to standard output.
+#![tactic(auto)]
+
 use input::{ROOM, read_input};
 use play::output::output;
 

@@ -1,4 +1,6 @@
 // Which of two writes has to come home first.
+#![tactic(auto)]
+
 ghost use Rattle.std.specs.Prelude.{◌≡◌, Bool};
 ghost use Rattle.precedence.specs.Stamps.{begun_at, finished_at, Lawful, overlap, line};
 ghost use Rattle.precedence.specs.declared.Stamp.{Stamp};

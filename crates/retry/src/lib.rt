@@ -1,4 +1,6 @@
 // A layer over any bench disk that makes a failed call again.
+#![tactic(auto)]
+
 ghost use Rattle.std.specs.Prelude.{◌≡◌};
 ghost use Rattle.disk.specs.Medium.{Alike};
 ghost use Rattle.disk.specs.Calls.{is_fault};

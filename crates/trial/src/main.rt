@@ -1,4 +1,6 @@
 // What a power cut does to a mark of two blocks, told in words.
+#![tactic(auto)]
+
 mod acts;
 mod cached;
 mod count;
