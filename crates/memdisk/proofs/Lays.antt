@@ -7,11 +7,6 @@ use Rattle.memdisk.specs.declared.loose.LooseWrite.{LooseWrite}
 use Rattle.disk.specs.Medium.{Block, Write, Fitting, IsBlock, lay, standing}
 use Rattle.memdisk.specs.Parts.{as_write, writes_of, no_write, EachFits}
 
--- the writes of a disk each fit it
-pub all_fitting : (n : ℕ) (ws : List LooseWrite) → EachFits n ws → All (Fitting n) (writes_of ws)
-all_fitting n [] f = tt
-all_fitting n (w ∷ ws) f = (f 0 (omega arith), all_fitting n ws (λ k h. f (suc k) (omega arith)))
-
 pub each_fits_push : (n : ℕ) (ws : List LooseWrite) (w : LooseWrite) → EachFits n ws → Fitting n (as_write w) → EachFits n (ws ++ w ∷ [])
 each_fits_push n [] w f g zero h = g
 each_fits_push n [] w f g (suc k) h = absurd (omega arith)

@@ -1,3 +1,2 @@
-pub mod Lays
 pub mod Fates
-pub mod Soundness
+pub mod Lays

@@ -3,3 +3,4 @@ pub mod Admission
 pub mod Making
 pub mod Parts
 pub mod Chunks
+pub mod Soundness

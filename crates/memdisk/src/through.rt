@@ -2,8 +2,7 @@ ghost use Rattle.std.specs.Prelude.{◌≡◌, true, false, [], MatchResult};
 ghost use Rattle.disk.specs.Medium.{settle};
 ghost use Rattle.memdisk.specs.Making.{usable, fresh, Holds};
 ghost use Rattle.memdisk.specs.Parts.{medium_of};
-ghost use Rattle.std.proofs.Common.{arith};
-ghost use Rattle.memdisk.specs.Chunks.{length_blocks, all_blocks};
+ghost use Rattle.memdisk.specs.Soundness.{through_sound};
 
 use crate::blocks::Blocks;
 use crate::parts::parts;
@@ -44,16 +43,7 @@ impl Disk for ThroughDisk {
 
     ghost rule = { λ _ _. settle };
 
-    ghost sound = { λ d.
-        let b = d.blocks in
-        let long = length_blocks b.count b.memory.items in
-        record {
-          some = omega arith;
-          few = omega arith;
-          blocks = all_blocks b.count b.memory.items (omega (arith, b.memory.ok.0));
-          held = omega arith;
-          fitting = tt;
-        } };
+    ghost sound = { λ d. through_sound d.blocks d.plan };
 
     fn tries() -> u32 {
         1

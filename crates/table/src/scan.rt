@@ -2,7 +2,7 @@
 ghost use Rattle.std.specs.Prelude.{◌≡◌};
 ghost use Rattle.table.specs.Versions.{ready};
 ghost use Rattle.table.specs.Rows.{in_rows, row_passes};
-ghost use Rattle.table.specs.Scans.{in-table, lower_of, higher_of, lowest_ready, newest_at, Lowest};
+ghost use Rattle.table.specs.Scans.{in_table, lower_of, higher_of, lowest_ready, newest_at, Lowest};
 
 use crate::held::{Query, Row};
 use crate::rows::{ROWS, Table};
@@ -33,7 +33,7 @@ fn lower(best: Option<Candidate>, next: Candidate) -> Option<Candidate>
 
 // Whether the row holds a write that precedes the stamp's.
 fn stops<P: Precedence>(row: &Row, order: &P, stamp: &Stamp) -> bool
-    ensures { result ≡ row_passes (λ u. before order.now u.stamp stamp.now) row.now }
+    ensures { result ≡ row_passes (λ u. P.before order.now u.stamp stamp.now) row.now }
 {
     match row {
         Row::Vacant => false,
@@ -43,9 +43,9 @@ fn stops<P: Precedence>(row: &Row, order: &P, stamp: &Stamp) -> bool
 
 // The ready row of lowest begin mark: it waits, and no write in the table precedes it.
 pub fn lowest_ready<P: Precedence>(table: &Table, order: &P) -> Option<Candidate>
-    ensures value { result ≡ lowest_ready (before order.now) table.now.rows }
-    ensures found { Lowest (ready (before order.now) (in_rows table.now.rows)) table.now.rows result }
-    ensures within { in-table result }
+    ensures value { result ≡ lowest_ready (P.before order.now) table.now.rows }
+    ensures found { Lowest (ready (P.before order.now) (in_rows table.now.rows)) table.now.rows result }
+    ensures within { in_table result }
 {
     let mut best = None;
     'candidates: for i in 0..ROWS {
@@ -88,7 +88,7 @@ fn higher(best: Option<Candidate>, next: Candidate) -> Option<Candidate>
 // The row of the place's finished write of highest begin mark.
 pub fn newest_at(table: &Table, place: usize) -> Option<Candidate>
     ensures value { result ≡ newest_at place table.now.rows }
-    ensures within { in-table result }
+    ensures within { in_table result }
 {
     let mut best = None;
     for i in 0..ROWS {

@@ -4,17 +4,17 @@ use Rattle.assembly.specs.Numbers.{with_digits}
 use Rattle.assembly.proofs.Digits.{number_some, digits_more}
 use Rattle.assembly.proofs.numbers.number.Goals as goal
 
-pub returns-in-err-number : goal.returns-in-err-number
-returns-in-err-number c =
+pub returns-in_err-number : goal.returns-in_err-number
+returns-in_err-number c =
     let word = c.args.word.now in
     c.from-residual.ensures
-    ∙ sym (digits_more c.loop-digit.number word c.loop-digit.digit-index {o = None} c.loop-digit-test.true c.in-err-number.ensures)
+    ∙ sym (digits_more c.loop-digit.number word c.loop-digit.digit-index {o = None} c.loop-digit-test.true c.in_err-number.ensures)
     ∙ c.loop-digit.invariant
     ∙ number_some word (sym c.is-empty.ensures ∙ c.if-is-empty.false)
 
 pub loop-digit-preserved : goal.loop-digit-preserved
 loop-digit-preserved c =
-    sym (digits_more c.loop-digit.number c.args.word.now c.loop-digit.digit-index c.loop-digit-test.true c.in-ok-number.ensures)
+    sym (digits_more c.loop-digit.number c.args.word.now c.loop-digit.digit-index c.loop-digit-test.true c.in_ok-number.ensures)
     ∙ c.loop-digit.invariant
 
 pub returns : goal.returns

@@ -5,7 +5,7 @@ use Rattle.std.proofs.lemmas.Bool.{and_right, and_from}
 use Rattle.head.specs.Head.{encode, fits}
 use Rattle.head.specs.Codes.{head_of}
 use Rattle.head.proofs.Bytes.{decoded, decode_none, decode_by, decode_unfit}
-use Rattle.head.proofs.codec.decode.Goals.{then-block-ne-BLOCK-via-then-block-ne-BLOCK, then-block-ne-BLOCK-via-else-block-ne-BLOCK+then-block-gt-MOST-PLACES}
+use Rattle.head.proofs.codec.decode.Goals.{then-block-ne-BLOCK-via-then-block-ne-BLOCK, then-block-ne-BLOCK-via-else-block-ne-BLOCK+then-block-gt-MOST_PLACES}
 use Rattle.head.proofs.codec.decode.Goals.{else-fits-via-then-fits+else-eq, else-fits-via-else-fits}
 use Rattle.head.proofs.codec.decode.Goals as goal
 use Rattle.std.proofs.lemmas.Bool.Decides.{Decides-eqb}
@@ -14,7 +14,7 @@ pub returns-then-block-ne-BLOCK : goal.returns-then-block-ne-BLOCK
 returns-then-block-ne-BLOCK c =
     let n = c.args.home in
     let b = c.args.block.now in
-    let d = decoded n b none (sym (decode_none n b (λ whole few. elim c.then-block-ne-BLOCK.branch [ then-block-ne-BLOCK-via-then-block-ne-BLOCK w ↦ absurd (w.if-block-ne-BLOCK.true whole) | then-block-ne-BLOCK-via-else-block-ne-BLOCK+then-block-gt-MOST-PLACES w ↦ absurd (omega (arith, w.if-block-gt-MOST-PLACES.true, few)) ]))) in
+    let d = decoded n b none (sym (decode_none n b (λ whole few. elim c.then-block-ne-BLOCK.branch [ then-block-ne-BLOCK-via-then-block-ne-BLOCK w ↦ absurd (w.if-block-ne-BLOCK.true whole) | then-block-ne-BLOCK-via-else-block-ne-BLOCK+then-block-gt-MOST_PLACES w ↦ absurd (omega (arith, w.if-block-gt-MOST_PLACES.true, few)) ]))) in
     record { value = d.value; no_other = d.no_other; every_head = d.every_head }
 
 pub returns-then-eq : goal.returns-then-eq

@@ -9,8 +9,8 @@ use Rattle.journal_volume.specs.Recovering.{at, OfRule, Leads}
 use Rattle.journal_volume.proofs.Going.{goes_on, leads_size, handed_up, home_flush_goes, write_empty_goes, last_flush_goes}
 use Rattle.journal_volume.proofs.recovery.clear.Goals as goal
 
-pub returns-in-err-flush : goal.returns-in-err-flush
-returns-in-err-flush g c =
+pub returns-in_err-flush : goal.returns-in_err-flush
+returns-in_err-flush g c =
     let rule = g.D.Disk.rule in
     let tries = g.D.Disk.attempts in
     let n = c.args.home in
@@ -18,15 +18,15 @@ returns-in-err-flush g c =
     let disk = c.args.disk.now in
     let m = g.D.Disk.medium disk in
     let last = g.D.Disk.medium c.flush.new.self in
-    let e = c.in-err-flush.field-0.0 in
+    let e = c.in_err-flush.field-0.0 in
     let w : Write = record { place = 0; bytes = [] } in
     let any : (x : Effect) × OfRule rule x = (rule disk w, (disk, w, refl)) in
     handed_up (OfRule rule) tries n (at (home_flush h) m) (write_empty h) (recovered h.number) e c.from-residual.result last
     (err_from_is_err_and c.from-residual.result c.from-residual.ensures.1)
-    (home_flush_goes (OfRule rule) any tries n m (Err e) last h c.in-err-flush.ensures)
+    (home_flush_goes (OfRule rule) any tries n m (Err e) last h c.in_err-flush.ensures)
 
-pub returns-in-err-write : goal.returns-in-err-write
-returns-in-err-write g c =
+pub returns-in_err-write : goal.returns-in_err-write
+returns-in_err-write g c =
     let rule = g.D.Disk.rule in
     let tries = g.D.Disk.attempts in
     let n = c.args.home in
@@ -36,18 +36,18 @@ returns-in-err-write g c =
     let mid-disk = c.flush.new.self in
     let mid = g.D.Disk.medium mid-disk in
     let last = g.D.Disk.medium c.write.new.self in
-    let e = c.in-err-write.field-0.0 in
+    let e = c.in_err-write.field-0.0 in
     let b = c.encode-empty.result in
     let w : Write = record { place = n; bytes = b } in
     let any : (x : Effect) × OfRule rule x = (rule disk w, (disk, w, refl)) in
-    let first : Leads (OfRule rule) n (at (home_flush h) m) (at (write_empty h) mid) = home_flush_goes (OfRule rule) any tries n m (Ok tt) mid h c.in-ok-flush.ensures in
+    let first : Leads (OfRule rule) n (at (home_flush h) m) (at (write_empty h) mid) = home_flush_goes (OfRule rule) any tries n m (Ok tt) mid h c.in_ok-flush.ensures in
     let fits : n < size mid = omega (arith, leads_size (OfRule rule) n (at (home_flush h) m) (at (write_empty h) mid) first, c.requires) in
     let bytes : b ≡ encode (empty_head h.number) = c.encode-empty.ensures.value ∙ ap encode c.empty.ensures in
     let whole : length b ≡ 512 = ap length bytes ∙ length_encode (empty_head h.number) (omega arith) in
     handed_up (OfRule rule) tries n (at (home_flush h) m) (last_flush h) (recovered h.number) e c.from-residual-in-err-write.result last
     (err_from_is_err_and c.from-residual-in-err-write.result c.from-residual-in-err-write.ensures.1)
     (goes_on (OfRule rule) n (at (home_flush h) m) (at (write_empty h) mid) first tries (last_flush h) (Err e) last
-    (write_empty_goes (OfRule rule) (rule mid-disk w) (mid-disk, w, refl) tries n mid (Err e) last h b bytes whole fits c.in-err-write.ensures.outcome))
+    (write_empty_goes (OfRule rule) (rule mid-disk w) (mid-disk, w, refl) tries n mid (Err e) last h b bytes whole fits c.in_err-write.ensures.outcome))
 
 pub returns : goal.returns
 returns g c =
@@ -64,12 +64,12 @@ returns g c =
     let b = c.encode-empty.result in
     let w : Write = record { place = n; bytes = b } in
     let any : (x : Effect) × OfRule rule x = (rule disk w, (disk, w, refl)) in
-    let first : Leads (OfRule rule) n (at (home_flush h) m) (at (write_empty h) mid) = home_flush_goes (OfRule rule) any tries n m (Ok tt) mid h c.in-ok-flush.ensures in
+    let first : Leads (OfRule rule) n (at (home_flush h) m) (at (write_empty h) mid) = home_flush_goes (OfRule rule) any tries n m (Ok tt) mid h c.in_ok-flush.ensures in
     let fits : n < size mid = omega (arith, leads_size (OfRule rule) n (at (home_flush h) m) (at (write_empty h) mid) first, c.requires) in
     let bytes : b ≡ encode (empty_head h.number) = c.encode-empty.ensures.value ∙ ap encode c.empty.ensures in
     let whole : length b ≡ 512 = ap length bytes ∙ length_encode (empty_head h.number) (omega arith) in
     let second : Leads (OfRule rule) n (at (write_empty h) mid) (at (last_flush h) late)
-    = write_empty_goes (OfRule rule) (rule mid-disk w) (mid-disk, w, refl) tries n mid (Ok tt) late h b bytes whole fits c.in-ok-write.ensures.outcome in
+    = write_empty_goes (OfRule rule) (rule mid-disk w) (mid-disk, w, refl) tries n mid (Ok tt) late h b bytes whole fits c.in_ok-write.ensures.outcome in
     goes_on (OfRule rule) n (at (home_flush h) m) (at (write_empty h) mid) first tries (recovered h.number) c.flush-2.result last
     (goes_on (OfRule rule) n (at (write_empty h) mid) (at (last_flush h) late) second tries (recovered h.number) c.flush-2.result last
     (last_flush_goes (OfRule rule) any tries n late c.flush-2.result last h c.flush-2.ensures))

@@ -8,8 +8,8 @@ use Rattle.journal_volume.specs.Recovering.{at, turn, OfRule, Leads}
 use Rattle.journal_volume.proofs.Going.{goes_on, leads_size, handed_up, place_below, read_slot_goes, write_home_goes}
 use Rattle.journal_volume.proofs.recovery.copy_slot.Goals as goal
 
-pub returns-in-err-read : goal.returns-in-err-read
-returns-in-err-read g c =
+pub returns-in_err-read : goal.returns-in_err-read
+returns-in_err-read g c =
     let rule = g.D.Disk.rule in
     let tries = g.D.Disk.attempts in
     let n = c.args.home in
@@ -19,13 +19,13 @@ returns-in-err-read g c =
     let m = g.D.Disk.medium disk in
     let last = g.D.Disk.medium c.read.new.self in
     let block = c.read.new.buffer in
-    let e = c.in-err-read.field-0.0 in
+    let e = c.in_err-read.field-0.0 in
     let w : Write = record { place = 0; bytes = [] } in
     let any : (x : Effect) × OfRule rule x = (rule disk w, (disk, w, refl)) in
     let slot : n + 1 + i ≡ slot_place n i = omega arith in
     handed_up (OfRule rule) tries n (at (read_slot i h) m) (write_home i h block) (turn (i + 1) h) e c.from-residual.result last
     (err_from_is_err_and c.from-residual.result c.from-residual.ensures.1)
-    (read_slot_goes (OfRule rule) any tries n m (Err e) last h i (n + 1 + i) (replicate 512 0) block slot refl (omega (arith, c.requires.sized, c.requires.in-turn, c.args.head.now.few)) c.in-err-read.ensures)
+    (read_slot_goes (OfRule rule) any tries n m (Err e) last h i (n + 1 + i) (replicate 512 0) block slot refl (omega (arith, c.requires.sized, c.requires.in-turn, c.args.head.now.few)) c.in_err-read.ensures)
 
 pub returns : goal.returns
 returns g c =
@@ -44,7 +44,7 @@ returns g c =
     let any : (x : Effect) × OfRule rule x = (rule disk w, (disk, w, refl)) in
     let slot : n + 1 + i ≡ slot_place n i = omega arith in
     let first : Leads (OfRule rule) n (at (read_slot i h) m) (at (write_home i h block) mid)
-    = read_slot_goes (OfRule rule) any tries n m (Ok tt) mid h i (n + 1 + i) (replicate 512 0) block slot refl (omega (arith, c.requires.sized, c.requires.in-turn, c.args.head.now.few)) c.in-ok-read.ensures in
+    = read_slot_goes (OfRule rule) any tries n m (Ok tt) mid h i (n + 1 + i) (replicate 512 0) block slot refl (omega (arith, c.requires.sized, c.requires.in-turn, c.args.head.now.few)) c.in_ok-read.ensures in
     let turns : i < length h.places = omega (arith, c.requires.in-turn, length-take-le c.args.head.now.count c.args.head.now.places (omega (arith, c.args.head.now.few, c.args.head.now.full))) in
     let fits : c.place.result < size mid = omega (arith, c.place.ensures, place_below n h i c.requires.fit turns, leads_size (OfRule rule) n (at (read_slot i h) m) (at (write_home i h block) mid) first, c.requires.sized) in
     let whole : length block ≡ 512 = search rules in

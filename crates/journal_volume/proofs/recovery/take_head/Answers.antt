@@ -7,23 +7,23 @@ use Rattle.journal_volume.specs.Recovering.{at, OfRule, Leads, Sees}
 use Rattle.journal_volume.proofs.Going.{goes_on, leads_on, leads_size, first_flush_goes, read_head_goes}
 use Rattle.journal_volume.proofs.recovery.take_head.Goals as goal
 
-pub returns-in-err-flush : goal.returns-in-err-flush
-returns-in-err-flush g c =
+pub returns-in_err-flush : goal.returns-in_err-flush
+returns-in_err-flush g c =
     let rule = g.D.Disk.rule in
     let tries = g.D.Disk.attempts in
     let n = c.args.home in
     let disk = c.args.disk.now in
     let m = g.D.Disk.medium disk in
     let last = g.D.Disk.medium c.flush.new.self in
-    let e = c.in-err-flush.field-0.0 in
+    let e = c.in_err-flush.field-0.0 in
     let w : Write = record { place = 0; bytes = [] } in
     let any : (x : Effect) × OfRule rule x = (rule disk w, (disk, w, refl)) in
     let p = err_from_is_err_and c.from-residual.result c.from-residual.ensures.1 in
     subst (λ z. Sees (OfRule rule) tries n m z last) (sym (p.1 ∙ ap (λ y. Err y) p.2))
-    (first_flush_goes (OfRule rule) any tries n m (Err e) last c.in-err-flush.ensures)
+    (first_flush_goes (OfRule rule) any tries n m (Err e) last c.in_err-flush.ensures)
 
-pub returns-in-err-read : goal.returns-in-err-read
-returns-in-err-read g c =
+pub returns-in_err-read : goal.returns-in_err-read
+returns-in_err-read g c =
     let rule = g.D.Disk.rule in
     let tries = g.D.Disk.attempts in
     let n = c.args.home in
@@ -33,13 +33,13 @@ returns-in-err-read g c =
     let w : Write = record { place = 0; bytes = [] } in
     let any : (x : Effect) × OfRule rule x = (rule disk w, (disk, w, refl)) in
     let last = g.D.Disk.medium c.read.new.self in
-    let e = c.in-err-read.field-0.0 in
-    let first : Leads (OfRule rule) n (started m) (at read_head mid) = first_flush_goes (OfRule rule) any tries n m (Ok tt) mid c.in-ok-flush.ensures in
+    let e = c.in_err-read.field-0.0 in
+    let first : Leads (OfRule rule) n (started m) (at read_head mid) = first_flush_goes (OfRule rule) any tries n m (Ok tt) mid c.in_ok-flush.ensures in
     let fits : n < size mid = omega (arith, leads_size (OfRule rule) n (started m) (at read_head mid) first, c.requires) in
     let p = err_from_is_err_and c.from-residual-in-err-read.result c.from-residual-in-err-read.ensures.1 in
     subst (λ z. Sees (OfRule rule) tries n m z last) (sym (p.1 ∙ ap (λ y. Err y) p.2))
     (goes_on (OfRule rule) n (started m) (at read_head mid) first tries (head_seen (decode n c.read.new.buffer)) (Err e) last
-    (read_head_goes (OfRule rule) any tries n mid (Err e) last (replicate 512 0) c.read.new.buffer refl fits c.in-err-read.ensures))
+    (read_head_goes (OfRule rule) any tries n mid (Err e) last (replicate 512 0) c.read.new.buffer refl fits c.in_err-read.ensures))
 
 pub returns : goal.returns
 returns g c =
@@ -52,10 +52,10 @@ returns g c =
     let w : Write = record { place = 0; bytes = [] } in
     let any : (x : Effect) × OfRule rule x = (rule disk w, (disk, w, refl)) in
     let last = g.D.Disk.medium c.read.new.self in
-    let first : Leads (OfRule rule) n (started m) (at read_head mid) = first_flush_goes (OfRule rule) any tries n m (Ok tt) mid c.in-ok-flush.ensures in
+    let first : Leads (OfRule rule) n (started m) (at read_head mid) = first_flush_goes (OfRule rule) any tries n m (Ok tt) mid c.in_ok-flush.ensures in
     let fits : n < size mid = omega (arith, leads_size (OfRule rule) n (started m) (at read_head mid) first, c.requires) in
     let second : Leads (OfRule rule) n (at read_head mid) (at (head_seen (decode n c.read.new.buffer)) last) =
-    read_head_goes (OfRule rule) any tries n mid (Ok tt) last (replicate 512 0) c.read.new.buffer refl fits c.in-ok-read.ensures in (
+    read_head_goes (OfRule rule) any tries n mid (Ok tt) last (replicate 512 0) c.read.new.buffer refl fits c.in_ok-read.ensures in (
       subst (λ o. Leads (OfRule rule) n (started m) (at (head_seen o) last)) (sym c.decode.ensures.value)
           (leads_on (OfRule rule) n (started m) (at read_head mid) first (at (head_seen (decode n c.read.new.buffer)) last) second),
       (λ h f. (c.decode.ensures.no_other h f).1),

@@ -16,7 +16,7 @@ returns-then-writes-i c =
     let b = c.args.blocks.now in
     let within : c.args.place < length (blocks_of b) = omega (arith, length_blocks b.count (vec_items b.memory)) in
     let here = shown_here (blocks_of b) c.args.writes.now c.loop-i.i c.args.place c.loop-i-test.true (omega arith) within c.if-writes-i.true in
-    c.copy-from-slice.ensures.after ∙ sym here ∙ c.loop-i.invariant
+    c.copy_from_slice.ensures.after ∙ sym here ∙ c.loop-i.invariant
 
 pub loop-i-preserved : goal.loop-i-preserved
 loop-i-preserved c =

@@ -43,7 +43,7 @@ loop-call-preserved g c =
             subst Running (sym made) (starts_running cold.accepted k (medium cold.disk) (model medium w.new-live.result) w.new-live.ensures is w.recover-until.ensures.starts),
             tells _ _ _ c.loop-call.invariant.1 (w.answer-is ∙ ap (λ (p : Played). p.answer) whole)
                 (made ∙ w.new-live.ensures.empty k is ∙ ap (λ (p : Played). p.live) whole)
-                c.new.ensures c.in-ok-push.ensures.items,
+                c.new.ensures c.in_ok-push.ensures.items,
           )
           )
       | in-None w ↦ (
@@ -52,7 +52,7 @@ loop-call-preserved g c =
             subst Running (sym same) (runs_on device call before d r did c.loop-call.invariant.0),
             tells _ _ _ c.loop-call.invariant.1 (w.answer-is ∙ ap (λ (p : Played). p.answer) whole)
                 (same ∙ ap (λ (p : Played). p.live) whole)
-                c.new.ensures c.in-ok-push.ensures.items,
+                c.new.ensures c.in_ok-push.ensures.items,
           )
           )
     ]

@@ -29,13 +29,13 @@ loop-call-preserved g c =
         ap (λ v. v.order) w.live-is ∙ w.taken-up-live.ensures.order,
         tells _ _ _ c.loop-call.invariant.1 (ap (λ (p : Played). p.answer) did)
             (ap (model medium) w.live-is ∙ w.taken-up-live.ensures.after ∙ ap (λ m. made (opened_until m)) w.cut.ensures.after ∙ ap (λ o. cut_by o d) w.in-Some.ensures ∙ ap (λ (p : Played). cut_by (cut_choice call) p.cache) did)
-            c.new.ensures c.in-ok-push.ensures.items,
+            c.new.ensures c.in_ok-push.ensures.items,
       )
       | in-None w ↦ (
         ap (λ v. v.order) w.live-is ∙ c.answer-to-answer.ensures.order ∙ c.loop-call.invariant.0,
         tells _ _ _ c.loop-call.invariant.1 (ap (λ (p : Played). p.answer) did)
             (ap (model medium) w.live-is ∙ ap (λ o. cut_by o d) w.in-None.ensures ∙ ap (λ (p : Played). cut_by (cut_choice call) p.cache) did)
-            c.new.ensures c.in-ok-push.ensures.items,
+            c.new.ensures c.in_ok-push.ensures.items,
       )
     ]
 

@@ -7,7 +7,7 @@ pub play-on-requires : goal.play-on-requires
 play-on-requires c =
     let value = c.new.ensures.value in
     let same = ap (λ r. medium_of r.disk.blocks (held_in r.disk.loose) r.disk.plan) value in
-    record { joins = λ d w. refl; room = roomy c.new.result.disk c.deref.result.now (same ∙ c.in-ok-disk.ensures) }
+    record { joins = λ d w. refl; room = roomy c.new.result.disk c.deref.result.now (same ∙ c.in_ok-disk.ensures) }
 
 pub play-on-requires-else-trace : goal.play-on-requires-else-trace
-play-on-requires-else-trace c = record { joins = λ d w. refl; room = roomy c.in-ok-disk.disk c.deref.result.now c.in-ok-disk.ensures }
+play-on-requires-else-trace c = record { joins = λ d w. refl; room = roomy c.in_ok-disk.disk c.deref.result.now c.in_ok-disk.ensures }

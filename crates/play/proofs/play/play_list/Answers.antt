@@ -3,4 +3,4 @@ use Rattle.play.proofs.Usable.{roomy}
 use Rattle.play.proofs.play.play_list.Goals as goal
 
 pub play-on-requires : goal.play-on-requires
-play-on-requires c = record { joins = λ d w. refl; room = roomy c.in-ok-disk.disk [] c.in-ok-disk.ensures }
+play-on-requires c = record { joins = λ d w. refl; room = roomy c.in_ok-disk.disk [] c.in_ok-disk.ensures }

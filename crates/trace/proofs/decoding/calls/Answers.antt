@@ -7,4 +7,4 @@ pub loop-rest-preserved : goal.loop-rest-preserved
 loop-rest-preserved c =
     let call = c.in-Some.call in
     after_more (vec_items c.loop-rest.calls) _ c.loop-rest.rest.now call (search rules) c.in-Some.ensures c.loop-rest.invariant
-    (pushed (call ∷ []) refl c.in-ok-push.was c.push.ensures.items)
+    (pushed (call ∷ []) refl c.in_ok-push.was c.push.ensures.items)

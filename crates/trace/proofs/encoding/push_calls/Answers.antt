@@ -12,7 +12,7 @@ loop-call-preserved c =
     let calls = c.args.calls.now in
     let i = c.loop-call.call-index in
     let call = get_or calls i (Begin 0 0) in
-    pushed c.bytes.result c.loop-call.invariant c.in-ok-extend-from-slice.was c.extend-from-slice.ensures.items
+    pushed c.bytes.result c.loop-call.invariant c.in_ok-extend_from_slice.was c.extend_from_slice.ensures.items
     ∙ ap (λ xs. (start ++ flat_map call_bytes (take i calls)) ++ xs) c.bytes.ensures
     ∙ flat_map_more call_bytes start (take i calls) call
     ∙ ap (λ xs. start ++ flat_map call_bytes xs) (sym (take_more calls i (Begin 0 0) c.loop-call-test.true))

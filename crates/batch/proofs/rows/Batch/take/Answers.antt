@@ -8,10 +8,10 @@ use Rattle.batch.specs.Rows.{no_entry, entries, begun_in}
 use Rattle.batch.proofs.Rowing.{find_none, find_some, without_none, without_some}
 use Rattle.batch.proofs.rows.Batch.take.Goals as goal
 
-pub returns-in-err-row : goal.returns-in-err-row
-returns-in-err-row c =
+pub returns-in_err-row : goal.returns-in_err-row
+returns-in_err-row c =
     let xs = entries c.args.self.now in
-    let none_is = sym c.in-err-row.ensures.row in
+    let none_is = sym c.in_err-row.ensures.row in
     record {
       taken = ap (λ o. maybe (option_map begun_in o)) c.from-residual.ensures ∙ sym (find_none c.args.mark xs none_is);
       rest = without_none c.args.mark xs none_is;
@@ -20,11 +20,11 @@ returns-in-err-row c =
 pub returns : goal.returns
 returns c =
     let b = c.args.self.now in
-    let i = c.in-ok-row.row in
+    let i = c.in_ok-row.row in
     let rows = c.copy-within.new.self in
     let h = c.copy-within.ensures in
-    let lt : i < b.count = c.in-ok-row.ensures.within in
-    let found = sym c.in-ok-row.ensures.row in
+    let lt : i < b.count = c.in_ok-row.ensures.within in
+    let found = sym c.in_ok-row.ensures.row in
     let old : length (entries b) ≡ b.count = length-take-le b.count b.rows (omega (arith, b.few, b.full)) in
     let new : length (take (b.count - 1) rows) ≡ b.count - 1 = length-take-le (b.count - 1) rows (omega (arith, b.few, b.full, h.len)) in
     record {

@@ -97,8 +97,8 @@ push-requires g c =
       length-map (entries s.opens) begun_in,
     )
 
-pub invariant-of-self : goal.invariant-of-self
-invariant-of-self g c =
+pub invariant_of-self : goal.invariant_of-self
+invariant_of-self g c =
     let s = c.args.self.now in
     let place = c.args.place in
     let bytes = c.args.bytes.now in

@@ -14,8 +14,8 @@ use Rattle.journal.proofs.Rooms.{room_collect, below_without, once_without, belo
 use Rattle.journal.proofs.Outcomes.{runs_by, kept_opens, finish_none, finish_some}
 use Rattle.journal.proofs.live.Live.finish.Goals as goal
 
-pub invariant-of-self : goal.invariant-of-self
-invariant-of-self g c =
+pub invariant_of-self : goal.invariant_of-self
+invariant_of-self g c =
     let s = c.args.self.now in
     let b = c.take.new.self in
     let device = met g.D.Disk.medium g.D.Disk.rule g.D.Disk.attempts s in
@@ -70,8 +70,8 @@ collect-requires g c =
       length-map (entries s.collected) write_in,
     )
 
-pub invariant-of-self-2 : goal.invariant-of-self-2
-invariant-of-self-2 g c =
+pub invariant_of-self-2 : goal.invariant_of-self-2
+invariant_of-self-2 g c =
     let s = c.args.self.now in
     let ticket = c.args.ticket in
     let b = c.take.new.self in

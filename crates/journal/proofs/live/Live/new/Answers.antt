@@ -8,8 +8,8 @@ use Rattle.journal.proofs.Rooms.{different_none}
 use Rattle.journal.proofs.Outcomes.{just_made}
 use Rattle.journal.proofs.live.Live.new.Goals as goal
 
-pub invariant-of-result : goal.invariant-of-result
-invariant-of-result g c =
+pub invariant_of-result : goal.invariant_of-result
+invariant_of-result g c =
     let n = c.saturating-sub-home.result in
     let few : c.size.result ≤ 4096 = omega (arith, c.size.ensures, (g.met.D.Disk.sound c.into-recovered-disk.result.disk).few) in
     let b = c.new.result in

@@ -36,8 +36,8 @@ returns-then-self-ge-LAST-NUMBER g c =
     let e = seal_10 device v (under_some s.group s.phase false c.if-is-some.ensures) some (le-leb 4_294_967_295 s.last c.if-self-ge-LAST-NUMBER.true) in
     record { outcome = e; runs = runs_by device seal v _ e }
 
-pub invariant-of-self : goal.invariant-of-self
-invariant-of-self g c =
+pub invariant_of-self : goal.invariant_of-self
+invariant_of-self g c =
     let s = c.args.self.now in
     let bare : write_list c.clear.new.self ≡ [] = ap (map write_in) c.clear.ensures in
     let count : length (entries s.collected) ≡ s.collected.count = length-take-le s.collected.count s.collected.rows (omega (arith, s.collected.few, s.collected.full)) in (

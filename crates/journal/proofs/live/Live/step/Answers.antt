@@ -17,14 +17,14 @@ returns-in-default g c =
     let e = step_idle device v (ap (under_way s.group) c.in-default.is) in
     record { outcome = e; runs = runs_by device step v _ e }
 
-pub returns-in-err-turn : goal.returns-in-err-turn
-returns-in-err-turn g c =
+pub returns-in_err-turn : goal.returns-in_err-turn
+returns-in_err-turn g c =
     let s = c.args.self.now in
     let device = met g.D.Disk.medium g.D.Disk.rule g.D.Disk.attempts s in
     let v = model g.D.Disk.medium s in
-    let x = c.in-err-turn.field-0.0 in
+    let x = c.in_err-turn.field-0.0 in
     let count = c.len-blocks.ensures ∙ sym (length-map (entries s.group.writes) write_in) in
-    let advances = c.in-err-turn.ensures ∙ ap (advanced c.len-blocks.result c.in-Some.phase) c.during-answer.ensures in
+    let advances = c.in_err-turn.ensures ∙ ap (advanced c.len-blocks.result c.in-Some.phase) c.during-answer.ensures in
     let p = err_from_is_err_and c.from-residual.result c.from-residual.ensures.1 in
     let same : stepped c.from-residual.result ≡ refused x = ap stepped p.1 ∙ ap refused p.2 in
     let e = ap (λ (a : Answer). record { answer = a; live = with_group v (g.D.Disk.medium c.make.new.disk) v.group }) same
@@ -38,7 +38,7 @@ returns g c =
     let device = met g.D.Disk.medium g.D.Disk.rule g.D.Disk.attempts s in
     let v = model g.D.Disk.medium s in
     let count = c.len-blocks.ensures ∙ sym (length-map (entries s.group.writes) write_in) in
-    let advances = c.in-ok-turn.ensures ∙ ap (advanced c.len-blocks.result c.in-Some.phase) c.during-answer.ensures in
+    let advances = c.in_ok-turn.ensures ∙ ap (advanced c.len-blocks.result c.in-Some.phase) c.during-answer.ensures in
     let e = step_ok v s.group c.in-Some.phase g.D.Disk.attempts (g.D.Disk.rule s.disk) (ap (under_way s.group) c.in-Some.is) c.len-blocks.result
-    c.make.result (g.D.Disk.medium c.make.new.disk) c.make.ensures count c.in-ok-turn.turn advances in
+    c.make.result (g.D.Disk.medium c.make.new.disk) c.make.ensures count c.in_ok-turn.turn advances in
     record { outcome = e; runs = runs_by device step v _ e }

@@ -9,8 +9,8 @@ use Rattle.journal.proofs.Rooms.{below_without, once_without, shorter_without}
 use Rattle.journal.proofs.Outcomes.{runs_by, withdraw_none, withdraw_some}
 use Rattle.journal.proofs.live.Live.withdraw.Goals as goal
 
-pub invariant-of-self : goal.invariant-of-self
-invariant-of-self g c =
+pub invariant_of-self : goal.invariant_of-self
+invariant_of-self g c =
     let s = c.args.self.now in
     let b = c.take.new.self in
     let ticket = c.args.ticket in

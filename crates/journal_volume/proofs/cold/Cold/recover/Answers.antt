@@ -16,15 +16,15 @@ returns-then-size-le-KEPT-BLOCKS g c =
     let d = too_small rule g.D.Disk.attempts m (omega (arith, c.size-size.ensures)) m refl in
     record { small = d.small; outcome = d.outcome; fixed = d.fixed; restores = d.restores; opens = d.opens; accepted = refl }
 
-pub returns-in-err-head : goal.returns-in-err-head
-returns-in-err-head g c =
+pub returns-in_err-head : goal.returns-in_err-head
+returns-in_err-head g c =
     let rule = g.D.Disk.rule in
     let m = g.D.Disk.medium c.args.self.now.disk in
     let last = g.D.Disk.medium c.take-head.new.disk in
     let s = c.size-size.result in
     let few : s ≤ 4096 = search rules in
     let p = err_from_is_err_and c.from-residual.result c.from-residual.ensures.1 in
-    let d = recovered_failed rule g.D.Disk.attempts m last s c.size-size.ensures (omega arith) few c.in-err-head.field-0.0 c.from-residual.result p c.in-err-head.ensures in
+    let d = recovered_failed rule g.D.Disk.attempts m last s c.size-size.ensures (omega arith) few c.in_err-head.field-0.0 c.from-residual.result p c.in_err-head.ensures in
     record { small = d.small; outcome = d.outcome; fixed = d.fixed; restores = d.restores; opens = d.opens; accepted = ap accepted_by (sym p.1) }
 
 pub returns-in-default : goal.returns-in-default
@@ -35,7 +35,7 @@ returns-in-default g c =
     let s = c.size-size.result in
     let few : s ≤ 4096 = search rules in
     let l : Leads (OfRule rule) (s - 9) (started m) (at (head_seen (found None)) last) =
-    subst (λ o. Leads (OfRule rule) (s - 9) (started m) (at (head_seen (found o)) last)) c.in-default.is c.in-ok-head.ensures.0 in
+    subst (λ o. Leads (OfRule rule) (s - 9) (started m) (at (head_seen (found o)) last)) c.in-default.is c.in_ok-head.ensures.0 in
     let d = recovered_none rule g.D.Disk.attempts m last s c.size-size.ensures (omega arith) few l in
     record { small = d.small; outcome = d.outcome; fixed = d.fixed; restores = d.restores; opens = d.opens; accepted = refl }
 
@@ -48,14 +48,14 @@ restore-requires g c =
     let n = s - 9 in
     let few : s ≤ 4096 = search rules in
     record {
-      sized = leads_size (OfRule rule) n (started m) (at (head_seen (found c.in-ok-head.field-0)) mid) c.in-ok-head.ensures.0
+      sized = leads_size (OfRule rule) n (started m) (at (head_seen (found c.in_ok-head.field-0)) mid) c.in_ok-head.ensures.0
           ∙ (let q : size m ≡ n + 9 = omega (arith, c.size-size.ensures) in q);
       room = omega (arith, few);
-      fit = c.in-ok-head.ensures.1 (head_of c.in-Some.head) (ap found c.in-Some.is);
+      fit = c.in_ok-head.ensures.1 (head_of c.in-Some.head) (ap found c.in-Some.is);
     }
 
-pub returns-in-err-restore : goal.returns-in-err-restore
-returns-in-err-restore g c =
+pub returns-in_err-restore : goal.returns-in_err-restore
+returns-in_err-restore g c =
     let rule = g.D.Disk.rule in
     let tries = g.D.Disk.attempts in
     let m = g.D.Disk.medium c.args.self.now.disk in
@@ -64,13 +64,13 @@ returns-in-err-restore g c =
     let s = c.size-size.result in
     let n = s - 9 in
     let h = head_of c.in-Some.head in
-    let e = c.in-err-restore.field-0.0 in
+    let e = c.in_err-restore.field-0.0 in
     let few : s ≤ 4096 = search rules in
     let l : Leads (OfRule rule) n (started m) (at (seen_stage h) mid) =
-    subst (λ o. Leads (OfRule rule) n (started m) (at (head_seen (found o)) mid)) c.in-Some.is c.in-ok-head.ensures.0 in
+    subst (λ o. Leads (OfRule rule) n (started m) (at (head_seen (found o)) mid)) c.in-Some.is c.in_ok-head.ensures.0 in
     let p = err_from_is_err_and c.from-residual-in-err-restore.result c.from-residual-in-err-restore.ensures.1 in
     let d = recovered_failed rule tries m last s c.size-size.ensures (omega arith) few e c.from-residual-in-err-restore.result p
-    (ends_on (OfRule rule) n (started m) (at (seen_stage h) mid) l tries (Err (volume.Disk e)) last c.in-err-restore.ensures) in
+    (ends_on (OfRule rule) n (started m) (at (seen_stage h) mid) l tries (Err (volume.Disk e)) last c.in_err-restore.ensures) in
     record { small = d.small; outcome = d.outcome; fixed = d.fixed; restores = d.restores; opens = d.opens; accepted = ap accepted_by (sym p.1) }
 
 pub returns : goal.returns
@@ -85,7 +85,7 @@ returns g c =
     let h = head_of c.in-Some.head in
     let few : s ≤ 4096 = search rules in
     let l : Leads (OfRule rule) n (started m) (at (seen_stage h) mid) =
-    subst (λ o. Leads (OfRule rule) n (started m) (at (head_seen (found o)) mid)) c.in-Some.is c.in-ok-head.ensures.0 in
+    subst (λ o. Leads (OfRule rule) n (started m) (at (head_seen (found o)) mid)) c.in-Some.is c.in_ok-head.ensures.0 in
     let d = recovered_done rule tries m last s c.size-size.ensures (omega arith) few h.number
-    (leads_on (OfRule rule) n (started m) (at (seen_stage h) mid) l (at (recovered h.number) last) c.in-ok-restore.ensures) in
+    (leads_on (OfRule rule) n (started m) (at (seen_stage h) mid) l (at (recovered h.number) last) c.in_ok-restore.ensures) in
     record { small = d.small; outcome = d.outcome; fixed = d.fixed; restores = d.restores; opens = d.opens; accepted = refl }

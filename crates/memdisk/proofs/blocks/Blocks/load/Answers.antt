@@ -6,7 +6,7 @@ pub returns : goal.returns
 returns c =
     let start = c.args.place * 512 in
     let one : (start + 512) - start ≡ 512 = omega arith in
-    c.copy-from-slice.ensures.after
+    c.copy_from_slice.ensures.after
     ∙ ap (λ n. take n (drop start c.deref.result.now)) one
     ∙ ap (λ bytes. take 512 (drop start bytes)) c.deref.ensures.value
     ∙ sym (get_d_blocks c.args.self.now.count c.args.place (vec_items c.args.self.now.memory) (omega arith))

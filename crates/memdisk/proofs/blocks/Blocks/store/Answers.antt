@@ -13,10 +13,10 @@ returns c =
     let bytes = c.args.bytes.now in
     let one : (start + 512) - start ≡ 512 = omega arith in
     let long : length (vec_items memory) ≡ 512 * count = omega (arith, memory.ok.0) in
-    let written : put_mid start ((start + 512) - start) c.deref-mut.result.now c.copy-from-slice.new.self ≡ put_mid start 512 (vec_items memory) bytes =
-    ap (λ n. put_mid start n c.deref-mut.result.now c.copy-from-slice.new.self) one
-    ∙ ap (λ xs. put_mid start 512 xs c.copy-from-slice.new.self) c.deref-mut.ensures.value
-    ∙ ap (put_mid start 512 (vec_items memory)) c.copy-from-slice.ensures.after in
+    let written : put_mid start ((start + 512) - start) c.deref_mut.result.now c.copy_from_slice.new.self ≡ put_mid start 512 (vec_items memory) bytes =
+    ap (λ n. put_mid start n c.deref_mut.result.now c.copy_from_slice.new.self) one
+    ∙ ap (λ xs. put_mid start 512 xs c.copy_from_slice.new.self) c.deref_mut.ensures.value
+    ∙ ap (put_mid start 512 (vec_items memory)) c.copy_from_slice.ensures.after in
     let kept : length (put_mid start 512 (vec_items memory) bytes) ≡ length (vec_items memory) = length_put_mid_block c.args.place (vec_items memory) bytes (omega arith) (omega arith) in
     record {
       count = refl;

@@ -8,4 +8,4 @@ pub returns : goal.returns
 returns c =
     let d = c.args.self in
     let m = medium_of d.blocks (held_in d.loose) d.plan in
-    subst (λ memory. Holds m (vec_items memory)) (sym c.into-memory.ensures) (holds d.blocks (held_in d.loose) d.plan)
+    subst (λ memory. Holds m (vec_items memory)) (sym c.into_memory.ensures) (holds d.blocks (held_in d.loose) d.plan)

@@ -11,14 +11,14 @@ pub returns : goal.returns
 returns c =
     let self = c.args.self.now in
     let t = trace_of self in
-    let plan : c.two-bytes.result ≡ two_bytes (length (vec_items self.plan)) = c.two-bytes.ensures ∙ ap two_bytes (c.len.ensures ∙ self.plan.ok.0) in
-    let calls : c.two-bytes-2.result ≡ two_bytes (length (vec_items self.calls)) = c.two-bytes-2.ensures ∙ ap two_bytes (c.len-2.ensures ∙ self.calls.ok.0) in
-    let value : vec_items c.push-calls.new.bytes ≡ encode t =
-    encoded_by t c.byte.ensures c.in-ok-bytes.ensures.items
-    (pushed c.two-bytes.result refl c.in-ok-extend-from-slice.was c.extend-from-slice.ensures.items ∙ ap (λ xs. vec_items c.in-ok-bytes.bytes ++ xs) plan)
-    (pushed c.deref.result.now refl c.in-ok-extend-from-slice-2.was c.extend-from-slice-2.ensures.items ∙ ap (λ xs. vec_items c.extend-from-slice.new.self ++ xs) c.deref.ensures.value)
-    (pushed c.two-bytes-2.result refl c.in-ok-extend-from-slice-3.was c.extend-from-slice-3.ensures.items ∙ ap (λ xs. vec_items c.extend-from-slice-2.new.self ++ xs) calls)
-    (c.in-ok-push-calls.ensures ∙ ap (λ xs. vec_items c.extend-from-slice-3.new.self ++ flat_map call_bytes xs) c.deref-2.ensures.value) in
+    let plan : c.two_bytes.result ≡ two_bytes (length (vec_items self.plan)) = c.two_bytes.ensures ∙ ap two_bytes (c.len.ensures ∙ self.plan.ok.0) in
+    let calls : c.two_bytes-2.result ≡ two_bytes (length (vec_items self.calls)) = c.two_bytes-2.ensures ∙ ap two_bytes (c.len-2.ensures ∙ self.calls.ok.0) in
+    let value : vec_items c.push_calls.new.bytes ≡ encode t =
+    encoded_by t c.byte.ensures c.in_ok-bytes.ensures.items
+    (pushed c.two_bytes.result refl c.in_ok-extend_from_slice.was c.extend_from_slice.ensures.items ∙ ap (λ xs. vec_items c.in_ok-bytes.bytes ++ xs) plan)
+    (pushed c.deref.result.now refl c.in_ok-extend_from_slice-2.was c.extend_from_slice-2.ensures.items ∙ ap (λ xs. vec_items c.extend_from_slice.new.self ++ xs) c.deref.ensures.value)
+    (pushed c.two_bytes-2.result refl c.in_ok-extend_from_slice-3.was c.extend_from_slice-3.ensures.items ∙ ap (λ xs. vec_items c.extend_from_slice-2.new.self ++ xs) calls)
+    (c.in_ok-push_calls.ensures ∙ ap (λ xs. vec_items c.extend_from_slice-3.new.self ++ flat_map call_bytes xs) c.deref-2.ensures.value) in
     record {
       value = value;
       read_back = ap decode value ∙ decode_encode t (omega (arith, self.short, self.plan.ok.0)) self.planned (omega (arith, self.listed, self.calls.ok.0));
