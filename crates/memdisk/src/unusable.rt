@@ -3,7 +3,7 @@ ghost use Rattle.std.specs.Prelude.{◌≡◌};
 ghost use Rattle.memdisk.specs.Making.{unusable_number};
 
 // The memory is not 1 to 4,096 whole blocks, or a byte of the plan is above 1.
-#[derive(Drop)]
+#[derive(Debug, Drop)]
 pub struct Unusable {
     pub memory: Vec<u8>,
     pub plan: Vec<u8>,

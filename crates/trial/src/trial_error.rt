@@ -5,7 +5,7 @@ use std::alloc::AllocError;
 use std::io;
 
 // What can end a trial early.
-#[derive(Drop)]
+#[derive(Debug, Drop)]
 pub enum TrialError {
     Disk(DiskError),
     Volume(VolumeError),
