@@ -106,8 +106,8 @@ mod tests {
             side: Side::Downstream,
             millimetres: 12050,
         };
-        assert_eq!(rt; format!(rt.alloc(), "{near}")?.as_str(), "-0.005");
-        assert_eq!(rt; format!(rt.alloc(), "{far}")?.as_str(), "+12.050");
+        assert_eq!(rt; format!(in rt.alloc(); "{near}")?.as_str(), "-0.005");
+        assert_eq!(rt; format!(in rt.alloc(); "{far}")?.as_str(), "+12.050");
         Ok(())
     }
 }

@@ -26,7 +26,7 @@ fn tells<W: Watch + Drop>(
             line: *line,
             deed: deed_of(&mut watch, *call, *line),
         };
-        let text = format!(rt.alloc(), "{told}")?;
+        let text = format!(in rt.alloc(); "{told}")?;
         assert_eq!(rt; text.as_str(), *expected);
     }
     Ok(())
