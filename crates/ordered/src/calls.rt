@@ -20,7 +20,7 @@ impl<D: BenchDisk, P: Precedence> Live<D, P> {
     pub fn begin(&mut self, place: usize, bytes: &[u8]) -> Result<u32, CacheError>
         ensures outcome { gives (marked result) (model D.Disk.medium self.new) ≡ begin_call place bytes.now (model D.Disk.medium self.old) }
         ensures order { self.new.order ≡ self.old.order }
-        ensures runs { RunsOn (before self.old.order) (Begin place bytes.now) (model D.Disk.medium self.old) (marked result) (model D.Disk.medium self.new) }
+        ensures runs { RunsOn (P.before self.old.order) (Begin place bytes.now) (model D.Disk.medium self.old) (marked result) (model D.Disk.medium self.new) }
     {
         if bytes.len() != BLOCK {
             return Err(CacheError::Length);
@@ -48,7 +48,7 @@ impl<D: BenchDisk, P: Precedence> Live<D, P> {
     pub fn finish(&mut self, ticket: u32) -> Result<u32, CacheError>
         ensures outcome { gives (marked result) (model D.Disk.medium self.new) ≡ finish_call ticket (model D.Disk.medium self.old) }
         ensures order { self.new.order ≡ self.old.order }
-        ensures runs { RunsOn (before self.old.order) (Finish ticket) (model D.Disk.medium self.old) (marked result) (model D.Disk.medium self.new) }
+        ensures runs { RunsOn (P.before self.old.order) (Finish ticket) (model D.Disk.medium self.old) (marked result) (model D.Disk.medium self.new) }
     {
         if !self.table.any(Query::Ticket(ticket)) {
             return Err(CacheError::NoTicket);
@@ -63,7 +63,7 @@ impl<D: BenchDisk, P: Precedence> Live<D, P> {
     pub fn withdraw(&mut self, ticket: u32) -> Result<(), CacheError>
         ensures outcome { gives (accepted result) (model D.Disk.medium self.new) ≡ withdraw_call ticket (model D.Disk.medium self.old) }
         ensures order { self.new.order ≡ self.old.order }
-        ensures runs { RunsOn (before self.old.order) (Withdraw ticket) (model D.Disk.medium self.old) (accepted result) (model D.Disk.medium self.new) }
+        ensures runs { RunsOn (P.before self.old.order) (Withdraw ticket) (model D.Disk.medium self.old) (accepted result) (model D.Disk.medium self.new) }
     {
         if !self.table.any(Query::Ticket(ticket)) {
             return Err(CacheError::NoTicket);
@@ -78,7 +78,7 @@ impl<D: BenchDisk, P: Precedence> Live<D, P> {
     pub fn restart(&mut self, choice: u8)
         ensures outcome { gives (took 0) (model D.Disk.medium self.new) ≡ restart_call choice (model D.Disk.medium self.old) }
         ensures order { self.new.order ≡ self.old.order }
-        ensures runs { RunsOn (before self.old.order) (Restart choice) (model D.Disk.medium self.old) (took 0) (model D.Disk.medium self.new) }
+        ensures runs { RunsOn (P.before self.old.order) (Restart choice) (model D.Disk.medium self.old) (took 0) (model D.Disk.medium self.new) }
     {
         self.disk.cut(choice);
         self.table.apply(Change::WaitAgain);
@@ -87,7 +87,7 @@ impl<D: BenchDisk, P: Precedence> Live<D, P> {
     // Where the writes stand.
     pub fn tally(&self) -> Tally
         ensures outcome { result ≡ tally (model D.Disk.medium self.now) }
-        ensures runs { RunsOn (before self.now.order) Count (model D.Disk.medium self.now) (counted result) (model D.Disk.medium self.now) }
+        ensures runs { RunsOn (P.before self.now.order) Count (model D.Disk.medium self.now) (counted result) (model D.Disk.medium self.now) }
     {
         Tally {
             begun: self.counts.begun,

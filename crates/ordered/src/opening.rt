@@ -30,7 +30,7 @@ impl<D: BenchDisk> Cold<D> {
         requires { self.accepted ≡ true }
         ensures after { model D.Disk.medium result ≡ made (D.Disk.medium self.disk) }
         ensures order { result.order ≡ order }
-        ensures runs { Starts (before order) (D.Disk.medium self.disk) (model D.Disk.medium result) }
+        ensures runs { Starts (P.before order) (D.Disk.medium self.disk) (model D.Disk.medium result) }
     {
         let Cold { disk, accepted: _ } = self;
         Live {

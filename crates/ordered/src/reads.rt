@@ -30,11 +30,11 @@ impl<D: BenchDisk, P: Precedence> Live<D, P> {
 
     // Fills the buffer with the place's block; a refusal leaves the buffer.
     pub fn read(&mut self, place: usize, buffer: &mut [u8]) -> Result<(), CacheError>
-        ensures outcome { gives (read_as result buffer.new) (model D.Disk.medium self.new) ≡ read_call (device D.Disk.rule D.Disk.attempts before self.old) place (length buffer.old) (model D.Disk.medium self.old) }
-        ensures buffer { buffer.new ≡ buffer_after buffer.old (read_call (device D.Disk.rule D.Disk.attempts before self.old) place (length buffer.old) (model D.Disk.medium self.old)).answer }
-        ensures newest { ReadsNewest (before self.old.order) (model D.Disk.medium self.old) place result buffer.new }
+        ensures outcome { gives (read_as result buffer.new) (model D.Disk.medium self.new) ≡ read_call (device D.Disk.rule D.Disk.attempts P.before self.old) place (length buffer.old) (model D.Disk.medium self.old) }
+        ensures buffer { buffer.new ≡ buffer_after buffer.old (read_call (device D.Disk.rule D.Disk.attempts P.before self.old) place (length buffer.old) (model D.Disk.medium self.old)).answer }
+        ensures newest { ReadsNewest (P.before self.old.order) (model D.Disk.medium self.old) place result buffer.new }
         ensures order { self.new.order ≡ self.old.order }
-        ensures runs { RunsOn (before self.old.order) (Read place (length buffer.old)) (model D.Disk.medium self.old) (read_as result buffer.new) (model D.Disk.medium self.new) }
+        ensures runs { RunsOn (P.before self.old.order) (Read place (length buffer.old)) (model D.Disk.medium self.old) (read_as result buffer.new) (model D.Disk.medium self.new) }
     {
         if buffer.len() != BLOCK {
             return Err(CacheError::Length);

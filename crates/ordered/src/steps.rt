@@ -22,7 +22,7 @@ use table::scan::lowest_ready;
 impl<D: BenchDisk, P: Precedence> Live<D, P> {
     // The grant of the ready row of lowest begin mark.
     fn pick(&self) -> Option<Grant>
-        ensures { option_map job result ≡ jobs self.now.table.rows (lowest_ready (before self.now.order) self.now.table.rows) }
+        ensures { option_map job result ≡ jobs self.now.table.rows (lowest_ready (P.before self.now.order) self.now.table.rows) }
     {
         let candidate = lowest_ready(&self.table, &self.order)?;
         let row = &self.table.rows[candidate.row];
@@ -75,9 +75,9 @@ impl<D: BenchDisk, P: Precedence> Live<D, P> {
 
     // Brings the writes on by at most one call of the disk.
     pub fn step(&mut self) -> Result<Progress, CacheError>
-        ensures outcome { gives (stepped result) (model D.Disk.medium self.new) ≡ step_call (before self.old.order) (device D.Disk.rule D.Disk.attempts before self.old) (model D.Disk.medium self.old) }
+        ensures outcome { gives (stepped result) (model D.Disk.medium self.new) ≡ step_call (P.before self.old.order) (device D.Disk.rule D.Disk.attempts P.before self.old) (model D.Disk.medium self.old) }
         ensures order { self.new.order ≡ self.old.order }
-        ensures runs { RunsOn (before self.old.order) Step (model D.Disk.medium self.old) (stepped result) (model D.Disk.medium self.new) }
+        ensures runs { RunsOn (P.before self.old.order) Step (model D.Disk.medium self.old) (stepped result) (model D.Disk.medium self.new) }
     {
         if !self.table.any(Query::Busy) {
             return Ok(Progress::Idle);

@@ -1,7 +1,7 @@
 // A disk of its own, with a rule of its own: writes at the even place join if none is loose, those at the odd place settle.
 ghost use Rattle.std.specs.Prelude.{◌≡◌, length};
 ghost use Rattle.ordered_tests.specs.Mixing.{mixed, mixed_rule, blank};
-ghost use Rattle.std.proofs.Common.{rules, arith};
+ghost use Rattle.ordered_tests.specs.Soundness.{mixed_sound};
 
 use disk::disk::{BLOCK, BenchDisk, Disk};
 use disk::error::DiskError;
@@ -41,7 +41,7 @@ impl Disk for Mixed {
 
     ghost rule = { λ d w. mixed_rule d.pending w };
 
-    ghost sound = { first_of (Prim.search rules, Prim.grind (arith, Self.row.coded.inj)) };
+    ghost sound = { λ d. mixed_sound d.even d.odd d.loose d.pending d.even_full d.odd_full d.loose_full };
 
     fn tries() -> u32 {
         1

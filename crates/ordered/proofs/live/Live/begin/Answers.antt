@@ -39,19 +39,19 @@ returns-then-any g c =
     let e = begin_3 place bytes m long far (sym c.if-any.ensures) in
     record { outcome = e; order = refl; runs = goes_on lawful any_disk (Begin place bytes) e }
 
-pub returns-in-default : goal.returns-in-default
-returns-in-default g c =
+pub returns-in_default : goal.returns-in_default
+returns-in_default g c =
     let m = model g.D.Disk.medium c.args.self.now in
     let place = c.args.place in
     let bytes = c.args.bytes.now in
     let lawful = g.met.P.Precedence.lawful c.args.self.now.order in
     let long : Long place bytes m ≡ false = grind (arith, nat_tests) in
     let far : Far place bytes m ≡ false = grind (arith, nat_tests, c.size.ensures) in
-    let e = begin_4 place bytes m long far (sym c.if-any.ensures) c.in-default.ensures in
+    let e = begin_4 place bytes m long far (sym c.if-any.ensures) c.in_default.ensures in
     record { outcome = e; order = refl; runs = goes_on lawful any_disk (Begin place bytes) e }
 
-pub returns-then-self-count-gt-LAST-MARK : goal.returns-then-self-count-gt-LAST-MARK
-returns-then-self-count-gt-LAST-MARK g c =
+pub returns-then-self-count-gt-LAST_MARK : goal.returns-then-self-count-gt-LAST_MARK
+returns-then-self-count-gt-LAST_MARK g c =
     let m = model g.D.Disk.medium c.args.self.now in
     let place = c.args.place in
     let bytes = c.args.bytes.now in

@@ -40,9 +40,9 @@ returns-in-Some g c =
     let lawful = g.met.P.Precedence.lawful c.args.self.now.order in
     let short : not (eqb (length b) 512) ≡ false = grind (arith, nat_tests) in
     let beyond : not (ltb place (size m.medium)) ≡ false = grind (arith, nat_tests, c.size.ensures) in
-    let shown-block = c.copy-from-slice.ensures.after ∙ c.bytes.ensures in
+    let shown-block = c.copy_from_slice.ensures.after ∙ c.bytes.ensures in
     let e = read_table met place b m short beyond c.in-Some.newest (sym c.in-Some.ensures.value) shown-block in
-    record { outcome = e.0; buffer = e.1; newest = shows_newest lawful met place (length b) (Ok tt) c.copy-from-slice.new.self e.0; order = refl; runs = goes_on lawful met (Read place (length b)) e.0 }
+    record { outcome = e.0; buffer = e.1; newest = shows_newest lawful met place (length b) (Ok tt) c.copy_from_slice.new.self e.0; order = refl; runs = goes_on lawful met (Read place (length b)) e.0 }
 
 pub returns : goal.returns
 returns g c =
@@ -53,6 +53,6 @@ returns g c =
     let lawful = g.met.P.Precedence.lawful c.args.self.now.order in
     let short : not (eqb (length b) 512) ≡ false = grind (arith, nat_tests) in
     let beyond : not (ltb place (size m.medium)) ≡ false = grind (arith, nat_tests, c.size.ensures) in
-    let did = c.read-disk.ensures in
-    let e = read_below met place b m short beyond (sym c.in-default.ensures.value) did.answer did.medium did.buffer (ap (λ (t : Table). t.rows) did.table) did.counter did.counts in
-    record { outcome = e.0; buffer = e.1; newest = shows_newest lawful met place (length b) c.read-disk.result c.read-disk.new.buffer e.0; order = did.order; runs = goes_on lawful met (Read place (length b)) e.0 }
+    let did = c.read_disk.ensures in
+    let e = read_below met place b m short beyond (sym c.in_default.ensures.value) did.answer did.medium did.buffer (ap (λ (t : Table). t.rows) did.table) did.counter did.counts in
+    record { outcome = e.0; buffer = e.1; newest = shows_newest lawful met place (length b) c.read_disk.result c.read_disk.new.buffer e.0; order = did.order; runs = goes_on lawful met (Read place (length b)) e.0 }

@@ -37,7 +37,7 @@ returns-then-not-any-2 g c =
     let tries = g.D.Disk.attempts in
     let met = device g.D.Disk.rule tries g.P.Precedence.before c.args.self.now in
     let lawful = g.met.P.Precedence.lawful c.args.self.now.order in
-    let e = step_blocked precedes rule tries m (sym c.if-not-any.ensures) c.in-default.ensures (sym c.if-not-any-2.ensures) in
+    let e = step_blocked precedes rule tries m (sym c.if-not-any.ensures) c.in_default.ensures (sym c.if-not-any-2.ensures) in
     record { outcome = e; order = refl; runs = goes_on lawful met Step e }
 
 pub returns : goal.returns
@@ -49,5 +49,5 @@ returns g c =
     let met = device g.D.Disk.rule tries g.P.Precedence.before c.args.self.now in
     let lawful = g.met.P.Precedence.lawful c.args.self.now.order in
     let did = c.flush.ensures in
-    let e = step_flushes precedes rule tries m (sym c.if-not-any.ensures) c.in-default.ensures (sym c.if-not-any-2.ensures) did.answer did.medium did.rows did.counter did.counts in
+    let e = step_flushes precedes rule tries m (sym c.if-not-any.ensures) c.in_default.ensures (sym c.if-not-any-2.ensures) did.answer did.medium did.rows did.counter did.counts in
     record { outcome = e; order = did.order; runs = goes_on lawful met Step e }
