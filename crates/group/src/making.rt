@@ -18,7 +18,7 @@ pub fn make<D: Disk>(
 ) -> Result<(), DiskError>
     requires room { home ≤ 4087 }
     requires turn { in_turn phase group.now.writes.count ≡ true }
-    ensures { Makes (rule disk.old) attempts (phase_call home (group_of group.now phase) (phase_of phase)) (medium disk.old) result (medium disk.new) }
+    ensures { Makes (D.rule disk.old) D.attempts (phase_call home (group_of group.now phase) (phase_of phase)) (D.medium disk.old) result (D.medium disk.new) }
 {
     match phase {
         Phase::Slot(i) => disk.write(home + 1 + i, &group.writes.entry(i).bytes),

@@ -13,8 +13,8 @@ use head::head::Head;
 
 // Flushes, and reads the head.
 pub(crate) fn take_head<D: Disk>(disk: &mut D, home: usize) -> Result<Option<Head>, DiskError>
-    requires { size (medium disk.old) ≡ home + 9 }
-    ensures { Sees (OfRule rule) attempts home (medium disk.old) result (medium disk.new) }
+    requires { size (D.medium disk.old) ≡ home + 9 }
+    ensures { Sees (OfRule D.rule) D.attempts home (D.medium disk.old) result (D.medium disk.new) }
 {
     let mut block = [0u8; BLOCK];
     disk.flush()?;
@@ -29,11 +29,11 @@ pub(crate) fn copy_slot<D: Disk>(
     head: &Head,
     i: usize,
 ) -> Result<(), DiskError>
-    requires sized { size (medium disk.old) ≡ home + 9 }
+    requires sized { size (D.medium disk.old) ≡ home + 9 }
     requires room { home ≤ 4087 }
     requires fit { fitting home (head_of head.now) ≡ true }
     requires in_turn { i < head.now.count }
-    ensures { Goes (OfRule rule) attempts home (at (read_slot i (head_of head.now)) (medium disk.old)) (turn (i + 1) (head_of head.now)) result (medium disk.new) }
+    ensures { Goes (OfRule D.rule) D.attempts home (at (read_slot i (head_of head.now)) (D.medium disk.old)) (turn (i + 1) (head_of head.now)) result (D.medium disk.new) }
 {
     let mut block = [0u8; BLOCK];
     disk.read(home + 1 + i, &mut block)?;
@@ -42,10 +42,10 @@ pub(crate) fn copy_slot<D: Disk>(
 
 // Copies every slot home, in turn.
 pub(crate) fn copy_slots<D: Disk>(disk: &mut D, home: usize, head: &Head) -> Result<(), DiskError>
-    requires sized { size (medium disk.old) ≡ home + 9 }
+    requires sized { size (D.medium disk.old) ≡ home + 9 }
     requires room { home ≤ 4087 }
     requires fit { fitting home (head_of head.now) ≡ true }
-    ensures { Goes (OfRule rule) attempts home (at (turn 0 (head_of head.now)) (medium disk.old)) (home_flush (head_of head.now)) result (medium disk.new) }
+    ensures { Goes (OfRule D.rule) D.attempts home (at (turn 0 (head_of head.now)) (D.medium disk.old)) (home_flush (head_of head.now)) result (D.medium disk.new) }
 {
     for i in 0..head.len() {
         copy_slot(disk, home, head, i)?;
@@ -55,8 +55,8 @@ pub(crate) fn copy_slots<D: Disk>(disk: &mut D, home: usize, head: &Head) -> Res
 
 // Flushes, writes the empty head, and flushes.
 pub(crate) fn clear<D: Disk>(disk: &mut D, home: usize, head: &Head) -> Result<(), DiskError>
-    requires { size (medium disk.old) ≡ home + 9 }
-    ensures { Goes (OfRule rule) attempts home (at (home_flush (head_of head.now)) (medium disk.old)) (recovered head.now.number) result (medium disk.new) }
+    requires { size (D.medium disk.old) ≡ home + 9 }
+    ensures { Goes (OfRule D.rule) D.attempts home (at (home_flush (head_of head.now)) (D.medium disk.old)) (recovered head.now.number) result (D.medium disk.new) }
 {
     let empty = Head::empty(head.number).encode();
     disk.flush()?;
@@ -66,10 +66,10 @@ pub(crate) fn clear<D: Disk>(disk: &mut D, home: usize, head: &Head) -> Result<(
 
 // Brings a group home, if the head names one.
 pub(crate) fn restore<D: Disk>(disk: &mut D, home: usize, head: &Head) -> Result<(), DiskError>
-    requires sized { size (medium disk.old) ≡ home + 9 }
+    requires sized { size (D.medium disk.old) ≡ home + 9 }
     requires room { home ≤ 4087 }
     requires fit { fitting home (head_of head.now) ≡ true }
-    ensures { Goes (OfRule rule) attempts home (at (seen_stage (head_of head.now)) (medium disk.old)) (recovered head.now.number) result (medium disk.new) }
+    ensures { Goes (OfRule D.rule) D.attempts home (at (seen_stage (head_of head.now)) (D.medium disk.old)) (recovered head.now.number) result (D.medium disk.new) }
 {
     if head.len() == 0 {
         return Ok(());

@@ -21,8 +21,8 @@ returns-in_err-flush g c =
     let e = c.in_err-flush.field-0.0 in
     let w : Write = record { place = 0; bytes = [] } in
     let any : (x : Effect) × OfRule rule x = (rule disk w, (disk, w, refl)) in
-    handed_up (OfRule rule) tries n (at (home_flush h) m) (write_empty h) (recovered h.number) e c.from-residual.result last
-    (err_from_is_err_and c.from-residual.result c.from-residual.ensures.1)
+    handed_up (OfRule rule) tries n (at (home_flush h) m) (write_empty h) (recovered h.number) e c.from_residual.result last
+    (err_from_is_err_and c.from_residual.result c.from_residual.ensures.1)
     (home_flush_goes (OfRule rule) any tries n m (Err e) last h c.in_err-flush.ensures)
 
 pub returns-in_err-write : goal.returns-in_err-write
@@ -44,8 +44,8 @@ returns-in_err-write g c =
     let fits : n < size mid = omega (arith, leads_size (OfRule rule) n (at (home_flush h) m) (at (write_empty h) mid) first, c.requires) in
     let bytes : b ≡ encode (empty_head h.number) = c.encode-empty.ensures.value ∙ ap encode c.empty.ensures in
     let whole : length b ≡ 512 = ap length bytes ∙ length_encode (empty_head h.number) (omega arith) in
-    handed_up (OfRule rule) tries n (at (home_flush h) m) (last_flush h) (recovered h.number) e c.from-residual-in-err-write.result last
-    (err_from_is_err_and c.from-residual-in-err-write.result c.from-residual-in-err-write.ensures.1)
+    handed_up (OfRule rule) tries n (at (home_flush h) m) (last_flush h) (recovered h.number) e c.from_residual-in_err-write.result last
+    (err_from_is_err_and c.from_residual-in_err-write.result c.from_residual-in_err-write.ensures.1)
     (goes_on (OfRule rule) n (at (home_flush h) m) (at (write_empty h) mid) first tries (last_flush h) (Err e) last
     (write_empty_goes (OfRule rule) (rule mid-disk w) (mid-disk, w, refl) tries n mid (Err e) last h b bytes whole fits c.in_err-write.ensures.outcome))
 

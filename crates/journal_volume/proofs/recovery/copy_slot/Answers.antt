@@ -23,9 +23,9 @@ returns-in_err-read g c =
     let w : Write = record { place = 0; bytes = [] } in
     let any : (x : Effect) × OfRule rule x = (rule disk w, (disk, w, refl)) in
     let slot : n + 1 + i ≡ slot_place n i = omega arith in
-    handed_up (OfRule rule) tries n (at (read_slot i h) m) (write_home i h block) (turn (i + 1) h) e c.from-residual.result last
-    (err_from_is_err_and c.from-residual.result c.from-residual.ensures.1)
-    (read_slot_goes (OfRule rule) any tries n m (Err e) last h i (n + 1 + i) (replicate 512 0) block slot refl (omega (arith, c.requires.sized, c.requires.in-turn, c.args.head.now.few)) c.in_err-read.ensures)
+    handed_up (OfRule rule) tries n (at (read_slot i h) m) (write_home i h block) (turn (i + 1) h) e c.from_residual.result last
+    (err_from_is_err_and c.from_residual.result c.from_residual.ensures.1)
+    (read_slot_goes (OfRule rule) any tries n m (Err e) last h i (n + 1 + i) (replicate 512 0) block slot refl (omega (arith, c.requires.sized, c.requires.in_turn, c.args.head.now.few)) c.in_err-read.ensures)
 
 pub returns : goal.returns
 returns g c =
@@ -44,8 +44,8 @@ returns g c =
     let any : (x : Effect) × OfRule rule x = (rule disk w, (disk, w, refl)) in
     let slot : n + 1 + i ≡ slot_place n i = omega arith in
     let first : Leads (OfRule rule) n (at (read_slot i h) m) (at (write_home i h block) mid)
-    = read_slot_goes (OfRule rule) any tries n m (Ok tt) mid h i (n + 1 + i) (replicate 512 0) block slot refl (omega (arith, c.requires.sized, c.requires.in-turn, c.args.head.now.few)) c.in_ok-read.ensures in
-    let turns : i < length h.places = omega (arith, c.requires.in-turn, length-take-le c.args.head.now.count c.args.head.now.places (omega (arith, c.args.head.now.few, c.args.head.now.full))) in
+    = read_slot_goes (OfRule rule) any tries n m (Ok tt) mid h i (n + 1 + i) (replicate 512 0) block slot refl (omega (arith, c.requires.sized, c.requires.in_turn, c.args.head.now.few)) c.in_ok-read.ensures in
+    let turns : i < length h.places = omega (arith, c.requires.in_turn, length-take-le c.args.head.now.count c.args.head.now.places (omega (arith, c.args.head.now.few, c.args.head.now.full))) in
     let fits : c.place.result < size mid = omega (arith, c.place.ensures, place_below n h i c.requires.fit turns, leads_size (OfRule rule) n (at (read_slot i h) m) (at (write_home i h block) mid) first, c.requires.sized) in
     let whole : length block ≡ 512 = search rules in
     goes_on (OfRule rule) n (at (read_slot i h) m) (at (write_home i h block) mid) first tries (turn (i + 1) h) c.write.result last

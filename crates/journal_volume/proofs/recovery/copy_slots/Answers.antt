@@ -9,8 +9,8 @@ use Rattle.journal_volume.proofs.recovery.copy_slots.Goals as goal
 pub loop-i-init : goal.loop-i-init
 loop-i-init g c = record { effects = []; by_rule = tt; run = refl }
 
-pub copy-slot-requires : goal.copy-slot-requires
-copy-slot-requires g c =
+pub copy_slot-requires : goal.copy_slot-requires
+copy_slot-requires g c =
     let rule = g.D.Disk.rule in
     let n = c.args.home in
     let h = head_of c.args.head.now in
@@ -31,13 +31,13 @@ loop-i-preserved g c =
     let h = head_of c.args.head.now in
     let m = g.D.Disk.medium c.args.disk.now in
     let mid = g.D.Disk.medium c.loop-i.disk in
-    let last = g.D.Disk.medium c.copy-slot.new.disk in
+    let last = g.D.Disk.medium c.copy_slot.new.disk in
     let more : i < length h.places = omega (arith, c.loop-i-test.true, c.len-i-end.ensures.length) in
     leads_on (OfRule rule) n (at (turn 0 h) m) (at (turn i h) mid) c.loop-i.invariant (at (turn (i + 1) h) last)
-    (subst (λ s. Leads (OfRule rule) n (at s mid) (at (turn (i + 1) h) last)) (sym (turn_on i h more)) c.in_ok-copy-slot.ensures)
+    (subst (λ s. Leads (OfRule rule) n (at s mid) (at (turn (i + 1) h) last)) (sym (turn_on i h more)) c.in_ok-copy_slot.ensures)
 
-pub returns-in_err-copy-slot : goal.returns-in_err-copy-slot
-returns-in_err-copy-slot g c =
+pub returns-in_err-copy_slot : goal.returns-in_err-copy_slot
+returns-in_err-copy_slot g c =
     let rule = g.D.Disk.rule in
     let tries = g.D.Disk.attempts in
     let n = c.args.home in
@@ -45,13 +45,13 @@ returns-in_err-copy-slot g c =
     let h = head_of c.args.head.now in
     let m = g.D.Disk.medium c.args.disk.now in
     let mid = g.D.Disk.medium c.loop-i.disk in
-    let last = g.D.Disk.medium c.copy-slot.new.disk in
-    let e = c.in_err-copy-slot.field-0.0 in
+    let last = g.D.Disk.medium c.copy_slot.new.disk in
+    let e = c.in_err-copy_slot.field-0.0 in
     let more : i < length h.places = omega (arith, c.loop-i-test.true, c.len-i-end.ensures.length) in
-    handed_up (OfRule rule) tries n (at (turn 0 h) m) (turn (i + 1) h) (home_flush h) e c.from-residual.result last
-    (err_from_is_err_and c.from-residual.result c.from-residual.ensures.1)
+    handed_up (OfRule rule) tries n (at (turn 0 h) m) (turn (i + 1) h) (home_flush h) e c.from_residual.result last
+    (err_from_is_err_and c.from_residual.result c.from_residual.ensures.1)
     (goes_on (OfRule rule) n (at (turn 0 h) m) (at (turn i h) mid) c.loop-i.invariant tries (turn (i + 1) h) (Err e) last
-    (subst (λ s. Goes (OfRule rule) tries n (at s mid) (turn (i + 1) h) (Err e) last) (sym (turn_on i h more)) c.in_err-copy-slot.ensures))
+    (subst (λ s. Goes (OfRule rule) tries n (at s mid) (turn (i + 1) h) (Err e) last) (sym (turn_on i h more)) c.in_err-copy_slot.ensures))
 
 pub returns : goal.returns
 returns g c =

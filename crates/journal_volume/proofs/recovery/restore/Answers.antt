@@ -21,22 +21,22 @@ clear-requires g c =
     let n = c.args.home in
     let h = head_of c.args.head.now in
     let m = g.D.Disk.medium c.args.disk.now in
-    let mid = g.D.Disk.medium c.copy-slots.new.disk in
-    leads_size (OfRule rule) n (at (turn 0 h) m) (at (home_flush h) mid) c.in_ok-copy-slots.ensures ∙ c.requires.sized
+    let mid = g.D.Disk.medium c.copy_slots.new.disk in
+    leads_size (OfRule rule) n (at (turn 0 h) m) (at (home_flush h) mid) c.in_ok-copy_slots.ensures ∙ c.requires.sized
 
-pub returns-in_err-copy-slots : goal.returns-in_err-copy-slots
-returns-in_err-copy-slots g c =
+pub returns-in_err-copy_slots : goal.returns-in_err-copy_slots
+returns-in_err-copy_slots g c =
     let rule = g.D.Disk.rule in
     let tries = g.D.Disk.attempts in
     let n = c.args.home in
     let h = head_of c.args.head.now in
     let m = g.D.Disk.medium c.args.disk.now in
-    let last = g.D.Disk.medium c.copy-slots.new.disk in
-    let e = c.in_err-copy-slots.field-0.0 in
+    let last = g.D.Disk.medium c.copy_slots.new.disk in
+    let e = c.in_err-copy_slots.field-0.0 in
     let some : 0 < length h.places = omega (arith, c.if-len-eq0.false, c.len.ensures.length) in
-    subst (λ s. Goes (OfRule rule) tries n (at s m) (recovered h.number) c.from-residual.result last) (sym (seen_some h some))
-    (handed_up (OfRule rule) tries n (at (turn 0 h) m) (home_flush h) (recovered h.number) e c.from-residual.result last
-    (err_from_is_err_and c.from-residual.result c.from-residual.ensures.1) c.in_err-copy-slots.ensures)
+    subst (λ s. Goes (OfRule rule) tries n (at s m) (recovered h.number) c.from_residual.result last) (sym (seen_some h some))
+    (handed_up (OfRule rule) tries n (at (turn 0 h) m) (home_flush h) (recovered h.number) e c.from_residual.result last
+    (err_from_is_err_and c.from_residual.result c.from_residual.ensures.1) c.in_err-copy_slots.ensures)
 
 pub returns : goal.returns
 returns g c =
@@ -45,8 +45,8 @@ returns g c =
     let n = c.args.home in
     let h = head_of c.args.head.now in
     let m = g.D.Disk.medium c.args.disk.now in
-    let mid = g.D.Disk.medium c.copy-slots.new.disk in
+    let mid = g.D.Disk.medium c.copy_slots.new.disk in
     let last = g.D.Disk.medium c.clear.new.disk in
     let some : 0 < length h.places = omega (arith, c.if-len-eq0.false, c.len.ensures.length) in
     subst (λ s. Goes (OfRule rule) tries n (at s m) (recovered h.number) c.clear.result last) (sym (seen_some h some))
-    (goes_on (OfRule rule) n (at (turn 0 h) m) (at (home_flush h) mid) c.in_ok-copy-slots.ensures tries (recovered h.number) c.clear.result last c.clear.ensures)
+    (goes_on (OfRule rule) n (at (turn 0 h) m) (at (home_flush h) mid) c.in_ok-copy_slots.ensures tries (recovered h.number) c.clear.result last c.clear.ensures)

@@ -18,7 +18,7 @@ returns-in_err-flush g c =
     let e = c.in_err-flush.field-0.0 in
     let w : Write = record { place = 0; bytes = [] } in
     let any : (x : Effect) × OfRule rule x = (rule disk w, (disk, w, refl)) in
-    let p = err_from_is_err_and c.from-residual.result c.from-residual.ensures.1 in
+    let p = err_from_is_err_and c.from_residual.result c.from_residual.ensures.1 in
     subst (λ z. Sees (OfRule rule) tries n m z last) (sym (p.1 ∙ ap (λ y. Err y) p.2))
     (first_flush_goes (OfRule rule) any tries n m (Err e) last c.in_err-flush.ensures)
 
@@ -36,7 +36,7 @@ returns-in_err-read g c =
     let e = c.in_err-read.field-0.0 in
     let first : Leads (OfRule rule) n (started m) (at read_head mid) = first_flush_goes (OfRule rule) any tries n m (Ok tt) mid c.in_ok-flush.ensures in
     let fits : n < size mid = omega (arith, leads_size (OfRule rule) n (started m) (at read_head mid) first, c.requires) in
-    let p = err_from_is_err_and c.from-residual-in-err-read.result c.from-residual-in-err-read.ensures.1 in
+    let p = err_from_is_err_and c.from_residual-in_err-read.result c.from_residual-in_err-read.ensures.1 in
     subst (λ z. Sees (OfRule rule) tries n m z last) (sym (p.1 ∙ ap (λ y. Err y) p.2))
     (goes_on (OfRule rule) n (started m) (at read_head mid) first tries (head_seen (decode n c.read.new.buffer)) (Err e) last
     (read_head_goes (OfRule rule) any tries n mid (Err e) last (replicate 512 0) c.read.new.buffer refl fits c.in_err-read.ensures))

@@ -8,7 +8,7 @@ use Rattle.batch.proofs.Rowing.{cached_none, cached_some}
 use Rattle.batch.proofs.rows.Batch.bytes_at.Goals as goal
 
 pub returns-in_err-row : goal.returns-in_err-row
-returns-in_err-row c = ap maybe c.from-residual.ensures ∙ sym (cached_none c.args.place (entries c.args.self.now) (sym c.in_err-row.ensures.row))
+returns-in_err-row c = ap maybe c.from_residual.ensures ∙ sym (cached_none c.args.place (entries c.args.self.now) (sym c.in_err-row.ensures.row))
 
 pub returns : goal.returns
 returns c =

@@ -4,4 +4,4 @@ use Rattle.batch.proofs.Rowing.{holds_by}
 use Rattle.batch.proofs.rows.Batch.holds.Goals as goal
 
 pub returns : goal.returns
-returns c = c.is-some.ensures ∙ ap is_some c.position.ensures.row ∙ sym (holds_by 0 c.args.place (entries c.args.self.now))
+returns c = c.is_some.ensures ∙ ap is_some c.position.ensures.row ∙ sym (holds_by 0 c.args.place (entries c.args.self.now))

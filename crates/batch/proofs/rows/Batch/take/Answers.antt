@@ -13,7 +13,7 @@ returns-in_err-row c =
     let xs = entries c.args.self.now in
     let none_is = sym c.in_err-row.ensures.row in
     record {
-      taken = ap (λ o. maybe (option_map begun_in o)) c.from-residual.ensures ∙ sym (find_none c.args.mark xs none_is);
+      taken = ap (λ o. maybe (option_map begun_in o)) c.from_residual.ensures ∙ sym (find_none c.args.mark xs none_is);
       rest = without_none c.args.mark xs none_is;
     }
 
@@ -21,8 +21,8 @@ pub returns : goal.returns
 returns c =
     let b = c.args.self.now in
     let i = c.in_ok-row.row in
-    let rows = c.copy-within.new.self in
-    let h = c.copy-within.ensures in
+    let rows = c.copy_within.new.self in
+    let h = c.copy_within.ensures in
     let lt : i < b.count = c.in_ok-row.ensures.within in
     let found = sym c.in_ok-row.ensures.row in
     let old : length (entries b) ≡ b.count = length-take-le b.count b.rows (omega (arith, b.few, b.full)) in

@@ -47,16 +47,16 @@ returns-then-holds g c =
     let e = begin_3 device v place bytes long far taken in
     record { outcome = e; runs = runs_by device (begin place bytes) v _ e }
 
-pub places-with-requires : goal.places-with-requires
-places-with-requires g c =
+pub places_with-requires : goal.places_with-requires
+places_with-requires g c =
     let s = c.args.self.now in
     record {
       inside = c.if-place-self.false;
       fresh = ap (holds c.args.place) (begun_places (entries s.opens)) ∙ sym c.if-holds.ensures;
     }
 
-pub returns-then-places-with-gt-MOST-PLACES : goal.returns-then-places-with-gt-MOST-PLACES
-returns-then-places-with-gt-MOST-PLACES g c =
+pub returns-then-places_with-gt-MOST_PLACES : goal.returns-then-places_with-gt-MOST_PLACES
+returns-then-places_with-gt-MOST_PLACES g c =
     let s = c.args.self.now in
     let device = met g.D.Disk.medium g.D.Disk.rule g.D.Disk.attempts s in
     let v = model g.D.Disk.medium s in
@@ -65,12 +65,12 @@ returns-then-places-with-gt-MOST-PLACES g c =
     let long : Long device v place bytes ≡ false = grind (arith, nat_tests) in
     let far : Far device v place bytes ≡ false = grind (arith, nat_tests) in
     let taken : Taken device v place bytes ≡ false = ap (holds place) (begun_places (entries s.opens)) ∙ sym c.if-holds.ensures in
-    let full : Full device v place bytes ≡ true = grind (arith, nat_tests, c.places-with.ensures) in
+    let full : Full device v place bytes ≡ true = grind (arith, nat_tests, c.places_with.ensures) in
     let e = begin_4 device v place bytes long far taken full in
     record { outcome = e; runs = runs_by device (begin place bytes) v _ e }
 
-pub returns-then-self-len-gt-LAST-MARK : goal.returns-then-self-len-gt-LAST-MARK
-returns-then-self-len-gt-LAST-MARK g c =
+pub returns-then-self-len-gt-LAST_MARK : goal.returns-then-self-len-gt-LAST_MARK
+returns-then-self-len-gt-LAST_MARK g c =
     let s = c.args.self.now in
     let device = met g.D.Disk.medium g.D.Disk.rule g.D.Disk.attempts s in
     let v = model g.D.Disk.medium s in
@@ -79,7 +79,7 @@ returns-then-self-len-gt-LAST-MARK g c =
     let long : Long device v place bytes ≡ false = grind (arith, nat_tests) in
     let far : Far device v place bytes ≡ false = grind (arith, nat_tests) in
     let taken : Taken device v place bytes ≡ false = ap (holds place) (begun_places (entries s.opens)) ∙ sym c.if-holds.ensures in
-    let full : Full device v place bytes ≡ false = grind (arith, nat_tests, c.places-with.ensures) in
+    let full : Full device v place bytes ≡ false = grind (arith, nat_tests, c.places_with.ensures) in
     let late : Late device v place bytes ≡ true = grind (arith, nat_tests, c.len.ensures, length-map (entries s.opens) begun_in) in
     let e = begin_5 device v place bytes long far taken full late in
     record { outcome = e; runs = runs_by device (begin place bytes) v _ e }
@@ -89,7 +89,7 @@ push-requires g c =
     let s = c.args.self.now in
     let ps = map begun_place (begun_list s.opens) in
     let fresh : holds c.args.place ps ≡ false = ap (holds c.args.place) (begun_places (entries s.opens)) ∙ sym c.if-holds.ensures in
-    let few : different s.home (c.args.place ∷ (map place_of (write_list s.collected) ++ ps)) ≤ 8 = omega (arith, c.places-with.ensures, c.if-places-with-gt-MOST-PLACES.false) in
+    let few : different s.home (c.args.place ∷ (map place_of (write_list s.collected) ++ ps)) ≤ 8 = omega (arith, c.places_with.ensures, c.if-places_with-gt-MOST_PLACES.false) in
     omega (
       arith,
       room_open s.home c.args.place (map place_of (write_list s.collected)) ps c.if-place-self.false fresh s.inside s.apart few,
@@ -109,35 +109,20 @@ invariant_of-self g c =
     let at : new.write.place ≡ place = ap (λ (e : Entry). e.place) c.new.ensures in
     let places : map begun_place (begun_list b) ≡ ps ++ place ∷ [] = ap (map begun_place) list ∙ map_push begun_place (begun_list s.opens) new ∙ ap (λ p. ps ++ p ∷ []) at in
     let fresh : holds place ps ≡ false = ap (holds place) (begun_places (entries s.opens)) ∙ sym c.if-holds.ensures in
-    let few : different s.home (place ∷ (map place_of (write_list s.collected) ++ ps)) ≤ 8 = omega (arith, c.places-with.ensures, c.if-places-with-gt-MOST-PLACES.false) in
+    let few : different s.home (place ∷ (map place_of (write_list s.collected) ++ ps)) ≤ 8 = omega (arith, c.places_with.ensures, c.if-places_with-gt-MOST_PLACES.false) in
     let old : length (entries s.opens) ≡ s.opens.count = length-take-le s.opens.count s.opens.rows (omega (arith, s.opens.few, s.opens.full)) in
     let now-count : length (entries b) ≡ b.count = length-take-le b.count b.rows (omega (arith, b.few, b.full)) in
-    let longer : length (entries b) ≡ length (entries s.opens) + 1 = ap length c.push.ensures ∙ length_push (entries s.opens) c.new.result in (
-      s.room,
-      (
-        omega (arith, old, now-count, longer, c.len.ensures, c.if-self-len-gt-LAST-MARK.false),
-        (
-          ap (all_below s.home) places ∙ below_push s.home ps place s.inside c.if-place-self.false,
-          (
-            ap none_twice places ∙ once_push s.home ps place s.apart fresh,
-            (
-              s.below,
-              (
-                s.once,
-                (
-                  subst (λ (l : List Begun). different s.home (map place_of (write_list s.collected) ++ map begun_place l) ≤ 8) (sym list)
-                      (omega (arith, room_begin s.home (begun_list s.opens) (write_list s.collected) new, subst (λ p. different s.home (p ∷ (map place_of (write_list s.collected) ++ ps)) ≤ 8) (sym at) few)),
-                  (
-                    s.turn,
-                    tt,
-                  ),
-                ),
-              ),
-            ),
-          ),
-        ),
-      ),
-    )
+    let longer : length (entries b) ≡ length (entries s.opens) + 1 = ap length c.push.ensures ∙ length_push (entries s.opens) c.new.result in record {
+      room = s.room;
+      marks = omega (arith, old, now-count, longer, c.len.ensures, c.if-self-len-gt-LAST_MARK.false);
+      inside = ap (all_below s.home) places ∙ below_push s.home ps place s.inside c.if-place-self.false;
+      apart = ap none_twice places ∙ once_push s.home ps place s.apart fresh;
+      below = s.below;
+      once = s.once;
+      places = subst (λ (l : List Begun). different s.home (map place_of (write_list s.collected) ++ map begun_place l) ≤ 8) (sym list)
+          (omega (arith, room_begin s.home (begun_list s.opens) (write_list s.collected) new, subst (λ p. different s.home (p ∷ (map place_of (write_list s.collected) ++ ps)) ≤ 8) (sym at) few));
+      turn = s.turn;
+    }
 
 pub returns : goal.returns
 returns g c =
@@ -149,7 +134,7 @@ returns g c =
     let long : Long device v place bytes ≡ false = grind (arith, nat_tests) in
     let far : Far device v place bytes ≡ false = grind (arith, nat_tests) in
     let taken : Taken device v place bytes ≡ false = ap (holds place) (begun_places (entries s.opens)) ∙ sym c.if-holds.ensures in
-    let full : Full device v place bytes ≡ false = grind (arith, nat_tests, c.places-with.ensures) in
+    let full : Full device v place bytes ≡ false = grind (arith, nat_tests, c.places_with.ensures) in
     let late : Late device v place bytes ≡ false = grind (arith, nat_tests, c.len.ensures, length-map (entries s.opens) begun_in) in
     let list = ap (map begun_in) c.push.ensures ∙ map_push begun_in (entries s.opens) c.new.result ∙ ap (λ (e : Entry). begun_list s.opens ++ begun_in e ∷ []) c.new.ensures in
     let e = begin_0 device v place bytes long far taken full late (begun_list c.push.new.self) list in

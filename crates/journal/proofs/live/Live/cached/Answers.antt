@@ -12,14 +12,14 @@ returns-in-Some g c =
     let s = c.args.self.now in
     cached_collected c.args.place (write_list s.collected) (group_writes (under_way s.group s.phase)) c.in-Some.bytes c.in-Some.ensures
 
-pub returns-then-is-some : goal.returns-then-is-some
-returns-then-is-some g c =
+pub returns-then-is_some : goal.returns-then-is_some
+returns-then-is_some g c =
     let s = c.args.self.now in
-    cached_grouped c.args.place (write_list s.collected) (group_writes (under_way s.group s.phase)) (maybe c.bytes-at-then-is-some.result) c.in-default.ensures
-    (c.bytes-at-then-is-some.ensures ∙ ap (cached c.args.place) (sym (some_group s.group s.phase c.if-is-some.ensures)))
+    cached_grouped c.args.place (write_list s.collected) (group_writes (under_way s.group s.phase)) (maybe c.bytes_at-then-is_some.result) c.in_default.ensures
+    (c.bytes_at-then-is_some.ensures ∙ ap (cached c.args.place) (sym (some_group s.group s.phase c.if-is_some.ensures)))
 
 pub returns : goal.returns
 returns g c =
     let s = c.args.self.now in
-    cached_grouped c.args.place (write_list s.collected) (group_writes (under_way s.group s.phase)) none c.in-default.ensures
-    (ap (cached c.args.place) (sym (no_group s.group s.phase c.if-is-some.ensures)))
+    cached_grouped c.args.place (write_list s.collected) (group_writes (under_way s.group s.phase)) none c.in_default.ensures
+    (ap (cached c.args.place) (sym (no_group s.group s.phase c.if-is_some.ensures)))

@@ -20,40 +20,25 @@ invariant_of-self g c =
     let b = c.take.new.self in
     let device = met g.D.Disk.medium g.D.Disk.rule g.D.Disk.attempts s in
     let v = model g.D.Disk.medium s in
-    let same : begun_list b ≡ begun_list s.opens = kept_opens device v c.args.ticket (begun_list b) c.take.ensures.rest (sym c.in-default.ensures.taken) in
+    let same : begun_list b ≡ begun_list s.opens = kept_opens device v c.args.ticket (begun_list b) c.take.ensures.rest (sym c.in_default.ensures.taken) in
     let count : length (entries b) ≡ b.count = length-take-le b.count b.rows (omega (arith, b.few, b.full)) in
-    let old : length (entries s.opens) ≡ s.opens.count = length-take-le s.opens.count s.opens.rows (omega (arith, s.opens.few, s.opens.full)) in (
-      s.room,
-      (
-        omega (arith, s.marks, count, old, ap length same, length-map (entries b) begun_in, length-map (entries s.opens) begun_in),
-        (
-          ap (λ (l : List Begun). all_below s.home (map begun_place l)) same ∙ s.inside,
-          (
-            ap (λ (l : List Begun). none_twice (map begun_place l)) same ∙ s.apart,
-            (
-              s.below,
-              (
-                s.once,
-                (
-                  subst (λ (l : List Begun). different s.home (map place_of (write_list s.collected) ++ map begun_place l) ≤ 8) (sym same) s.places,
-                  (
-                    s.turn,
-                    tt,
-                  ),
-                ),
-              ),
-            ),
-          ),
-        ),
-      ),
-    )
+    let old : length (entries s.opens) ≡ s.opens.count = length-take-le s.opens.count s.opens.rows (omega (arith, s.opens.few, s.opens.full)) in record {
+      room = s.room;
+      marks = omega (arith, s.marks, count, old, ap length same, length-map (entries b) begun_in, length-map (entries s.opens) begun_in);
+      inside = ap (λ (l : List Begun). all_below s.home (map begun_place l)) same ∙ s.inside;
+      apart = ap (λ (l : List Begun). none_twice (map begun_place l)) same ∙ s.apart;
+      below = s.below;
+      once = s.once;
+      places = subst (λ (l : List Begun). different s.home (map place_of (write_list s.collected) ++ map begun_place l) ≤ 8) (sym same) s.places;
+      turn = s.turn;
+    }
 
-pub returns-in-default : goal.returns-in-default
-returns-in-default g c =
+pub returns-in_default : goal.returns-in_default
+returns-in_default g c =
     let s = c.args.self.now in
     let device = met g.D.Disk.medium g.D.Disk.rule g.D.Disk.attempts s in
     let v = model g.D.Disk.medium s in
-    let e = finish_none device v c.args.ticket (begun_list c.take.new.self) c.take.ensures.rest c.in-default.ensures.taken in
+    let e = finish_none device v c.args.ticket (begun_list c.take.new.self) c.take.ensures.rest c.in_default.ensures.taken in
     record { outcome = e; runs = runs_by device (finish c.args.ticket) v _ e }
 
 pub collect-requires : goal.collect-requires
@@ -82,32 +67,17 @@ invariant_of-self-2 g c =
     let batch : write_list k ≡ collect o.write (write_list s.collected) = c.collect.ensures in
     let count : length (entries b) ≡ b.count = length-take-le b.count b.rows (omega (arith, b.few, b.full)) in
     let old : length (entries s.opens) ≡ s.opens.count = length-take-le s.opens.count s.opens.rows (omega (arith, s.opens.few, s.opens.full)) in
-    let inside : o.write.place < s.home = below_held s.home o.write.place (map begun_place (begun_list s.opens)) (holds_found ticket (begun_list s.opens) o found) s.inside in (
-      s.room,
-      (
-        omega (arith, s.marks, count, old, ap length rest, length-map (entries b) begun_in, length-map (entries s.opens) begun_in, length_without ticket (begun_list s.opens) o found),
-        (
-          ap (λ (l : List Begun). all_below s.home (map begun_place l)) rest ∙ below_without s.home ticket (begun_list s.opens) s.inside,
-          (
-            ap (λ (l : List Begun). none_twice (map begun_place l)) rest ∙ once_without s.home ticket (begun_list s.opens) s.apart,
-            (
-              ap (λ (l : List Write). all_below s.home (map place_of l)) batch ∙ below_collect s.home o.write (write_list s.collected) inside s.below,
-              (
-                ap (λ (l : List Write). none_twice (map place_of l)) batch ∙ once_collect o.write (write_list s.collected) s.once,
-                (
-                  subst₂ (λ (x : List Write) (y : List Begun). different s.home (map place_of x ++ map begun_place y) ≤ 8) (sym batch) (sym rest)
-                      (omega (arith, s.places, room_finish s.home (begun_list s.opens) (write_list s.collected) ticket o found)),
-                  (
-                    s.turn,
-                    tt,
-                  ),
-                ),
-              ),
-            ),
-          ),
-        ),
-      ),
-    )
+    let inside : o.write.place < s.home = below_held s.home o.write.place (map begun_place (begun_list s.opens)) (holds_found ticket (begun_list s.opens) o found) s.inside in record {
+      room = s.room;
+      marks = omega (arith, s.marks, count, old, ap length rest, length-map (entries b) begun_in, length-map (entries s.opens) begun_in, length_without ticket (begun_list s.opens) o found);
+      inside = ap (λ (l : List Begun). all_below s.home (map begun_place l)) rest ∙ below_without s.home ticket (begun_list s.opens) s.inside;
+      apart = ap (λ (l : List Begun). none_twice (map begun_place l)) rest ∙ once_without s.home ticket (begun_list s.opens) s.apart;
+      below = ap (λ (l : List Write). all_below s.home (map place_of l)) batch ∙ below_collect s.home o.write (write_list s.collected) inside s.below;
+      once = ap (λ (l : List Write). none_twice (map place_of l)) batch ∙ once_collect o.write (write_list s.collected) s.once;
+      places = subst₂ (λ (x : List Write) (y : List Begun). different s.home (map place_of x ++ map begun_place y) ≤ 8) (sym batch) (sym rest)
+          (omega (arith, s.places, room_finish s.home (begun_list s.opens) (write_list s.collected) ticket o found));
+      turn = s.turn;
+    }
 
 pub returns : goal.returns
 returns g c =

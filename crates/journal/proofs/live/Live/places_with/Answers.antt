@@ -7,15 +7,15 @@ use Rattle.group.proofs.Calling.{entry_places}
 use Rattle.journal.proofs.Rooms.{begun_places, outside_le, room_is}
 use Rattle.journal.proofs.live.Live.places_with.Goals as goal
 
-pub overflow-add-taken : goal.overflow-add-taken
-overflow-add-taken g c =
+pub overflow_add-taken : goal.overflow_add-taken
+overflow_add-taken g c =
     let v = c.args.self.now in
     let a : length (entries v.collected) ≤ 8 = omega (arith, length-take-le v.collected.count v.collected.rows (omega (arith, v.collected.few, v.collected.full)), v.collected.few) in
     let b : length (place_list v.opens) ≤ 8 = omega (arith, length-map (entries v.opens) place_in, length-take-le v.opens.count v.opens.rows (omega (arith, v.opens.few, v.opens.full)), v.opens.few) in
     omega (arith, a, b, c.len.ensures, c.outside.ensures, outside_le (place_list v.opens) (place_list v.collected))
 
-pub overflow-add-result : goal.overflow-add-result
-overflow-add-result g c =
+pub overflow_add-result : goal.overflow_add-result
+overflow_add-result g c =
     let v = c.args.self.now in
     let a : length (entries v.collected) ≤ 8 = omega (arith, length-take-le v.collected.count v.collected.rows (omega (arith, v.collected.few, v.collected.full)), v.collected.few) in
     let b : length (place_list v.opens) ≤ 8 = omega (arith, length-map (entries v.opens) place_in, length-take-le v.opens.count v.opens.rows (omega (arith, v.opens.few, v.opens.full)), v.opens.few) in

@@ -13,10 +13,10 @@ returns-in-Some g c =
     let e = restart_some device v c.args.choice _ s.group c.in-Some.phase c.restarted.result c.cut.ensures (ap (under_way s.group) c.in-Some.is) c.restarted.ensures.phase in
     record { outcome = e; runs = runs_by device (restart c.args.choice) v _ e }
 
-pub returns-in-default : goal.returns-in-default
-returns-in-default g c =
+pub returns-in_default : goal.returns-in_default
+returns-in_default g c =
     let s = c.args.self.now in
     let device = met g.D.Disk.medium g.D.Disk.rule g.D.Disk.attempts s in
     let v = model g.D.Disk.medium s in
-    let e = restart_none device v c.args.choice _ c.cut.ensures (ap (under_way s.group) c.in-default.is) in
+    let e = restart_none device v c.args.choice _ c.cut.ensures (ap (under_way s.group) c.in_default.is) in
     record { outcome = e; runs = runs_by device (restart c.args.choice) v _ e }

@@ -16,39 +16,24 @@ invariant_of-self g c =
     let ticket = c.args.ticket in
     let rest : begun_list b ≡ without ticket (begun_list s.opens) = c.take.ensures.rest in
     let count : length (entries b) ≡ b.count = length-take-le b.count b.rows (omega (arith, b.few, b.full)) in
-    let old : length (entries s.opens) ≡ s.opens.count = length-take-le s.opens.count s.opens.rows (omega (arith, s.opens.few, s.opens.full)) in (
-      s.room,
-      (
-        omega (arith, s.marks, count, old, ap length rest, length-map (entries b) begun_in, length-map (entries s.opens) begun_in, shorter_without ticket (begun_list s.opens)),
-        (
-          ap (λ (l : List Begun). all_below s.home (map begun_place l)) rest ∙ below_without s.home ticket (begun_list s.opens) s.inside,
-          (
-            ap (λ (l : List Begun). none_twice (map begun_place l)) rest ∙ once_without s.home ticket (begun_list s.opens) s.apart,
-            (
-              s.below,
-              (
-                s.once,
-                (
-                  subst (λ (l : List Begun). different s.home (map place_of (write_list s.collected) ++ map begun_place l) ≤ 8) (sym rest)
-                      (omega (arith, s.places, room_without s.home (begun_list s.opens) (write_list s.collected) ticket)),
-                  (
-                    s.turn,
-                    tt,
-                  ),
-                ),
-              ),
-            ),
-          ),
-        ),
-      ),
-    )
+    let old : length (entries s.opens) ≡ s.opens.count = length-take-le s.opens.count s.opens.rows (omega (arith, s.opens.few, s.opens.full)) in record {
+      room = s.room;
+      marks = omega (arith, s.marks, count, old, ap length rest, length-map (entries b) begun_in, length-map (entries s.opens) begun_in, shorter_without ticket (begun_list s.opens));
+      inside = ap (λ (l : List Begun). all_below s.home (map begun_place l)) rest ∙ below_without s.home ticket (begun_list s.opens) s.inside;
+      apart = ap (λ (l : List Begun). none_twice (map begun_place l)) rest ∙ once_without s.home ticket (begun_list s.opens) s.apart;
+      below = s.below;
+      once = s.once;
+      places = subst (λ (l : List Begun). different s.home (map place_of (write_list s.collected) ++ map begun_place l) ≤ 8) (sym rest)
+          (omega (arith, s.places, room_without s.home (begun_list s.opens) (write_list s.collected) ticket));
+      turn = s.turn;
+    }
 
-pub returns-in-default : goal.returns-in-default
-returns-in-default g c =
+pub returns-in_default : goal.returns-in_default
+returns-in_default g c =
     let s = c.args.self.now in
     let device = met g.D.Disk.medium g.D.Disk.rule g.D.Disk.attempts s in
     let v = model g.D.Disk.medium s in
-    let e = withdraw_none device v c.args.ticket (begun_list c.take.new.self) c.take.ensures.rest c.in-default.ensures.taken in
+    let e = withdraw_none device v c.args.ticket (begun_list c.take.new.self) c.take.ensures.rest c.in_default.ensures.taken in
     record { outcome = e; runs = runs_by device (withdraw c.args.ticket) v _ e }
 
 pub returns : goal.returns
