@@ -6,8 +6,8 @@ use Rattle.assembly.proofs.Lining.{some_bytes, no_bytes, assembled_within, assem
 use Rattle.assembly.proofs.Telling.{reads_back}
 use Rattle.assembly.proofs.assembling.assemble.Goals as goal
 
-pub returns-then-text-gt-TEXT-MAX : goal.returns-then-text-gt-TEXT-MAX
-returns-then-text-gt-TEXT-MAX c =
+pub returns-then-text-gt-TEXT_MAX : goal.returns-then-text-gt-TEXT_MAX
+returns-then-text-gt-TEXT_MAX c =
     let text = c.args.text.now in
     let value : assembled text ≡ Err TooLong = assembled_past text (omega arith) in
     record { value = value; told = reads_back text (Err TooLong) value }
@@ -19,21 +19,21 @@ returns-in-Err c =
     let error = c.located.result in
     let value : Fails (assembled text) error =
     fails_as error (c.loop-rest.invariant.0 ∙ sym (assembled_within text (omega arith)))
-    (line_failed c.loop-rest.line c.position-end.result rest (trace_of c.loop-rest.trace) (some_bytes rest (sym c.is-empty.ensures ∙ c.loop-rest-test.true)) c.position-end.ensures.value
-    c.in-Err.error (trace_of c.take-line.new.trace) error c.in-Err.ensures c.located.ensures) in
+    (line_failed c.loop-rest.line c.position-end.result rest (trace_of c.loop-rest.trace) (some_bytes rest (sym c.is_empty.ensures ∙ c.loop-rest-test.true)) c.position-end.ensures.value
+    c.in-Err.error (trace_of c.take_line.new.trace) error c.in-Err.ensures c.located.ensures) in
     record { value = value; told = reads_back text (Err error) value }
 
 pub loop-rest-smaller : goal.loop-rest-smaller
 loop-rest-smaller c =
     let rest = c.loop-rest.rest.now in
-    shorter rest c.behind-rest.result.now c.position-end.result (some_bytes rest (sym c.is-empty.ensures ∙ c.loop-rest-test.true)) c.behind-rest.ensures
+    shorter rest c.behind-rest.result.now c.position-end.result (some_bytes rest (sym c.is_empty.ensures ∙ c.loop-rest-test.true)) c.behind-rest.ensures
 
 pub loop-rest-preserved : goal.loop-rest-preserved
 loop-rest-preserved c =
     let rest = c.loop-rest.rest.now in
-    let some : 0 < length rest = some_bytes rest (sym c.is-empty.ensures ∙ c.loop-rest-test.true) in
+    let some : 0 < length rest = some_bytes rest (sym c.is_empty.ensures ∙ c.loop-rest-test.true) in
     let less : length c.behind-rest.result.now < length rest = shorter rest c.behind-rest.result.now c.position-end.result some c.behind-rest.ensures in (
-      line_taken c.loop-rest.line c.position-end.result rest (trace_of c.loop-rest.trace) some c.position-end.ensures.value c.behind-rest.result.now (trace_of c.take-line.new.trace) c.in-Ok.ensures c.behind-rest.ensures
+      line_taken c.loop-rest.line c.position-end.result rest (trace_of c.loop-rest.trace) some c.position-end.ensures.value c.behind-rest.result.now (trace_of c.take_line.new.trace) c.in-Ok.ensures c.behind-rest.ensures
           ∙ c.loop-rest.invariant.0,
       omega (arith, less, c.loop-rest.invariant.1),
     )
@@ -46,5 +46,5 @@ returns c =
     let value : assembled text ≡ Ok (trace_of trace) =
     assembled_within text (omega arith)
     ∙ sym c.loop-rest.invariant.0
-    ∙ ap (λ ls. from_line c.loop-rest.line ls (trace_of trace)) (sym (no_bytes rest (sym c.is-empty.ensures ∙ c.loop-rest-test.false))) in
+    ∙ ap (λ ls. from_line c.loop-rest.line ls (trace_of trace)) (sym (no_bytes rest (sym c.is_empty.ensures ∙ c.loop-rest-test.false))) in
     record { value = value; told = reads_back text (Ok trace) value }

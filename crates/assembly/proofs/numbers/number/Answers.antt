@@ -7,10 +7,10 @@ use Rattle.assembly.proofs.numbers.number.Goals as goal
 pub returns-in_err-number : goal.returns-in_err-number
 returns-in_err-number c =
     let word = c.args.word.now in
-    c.from-residual.ensures
+    c.from_residual.ensures
     ∙ sym (digits_more c.loop-digit.number word c.loop-digit.digit-index {o = None} c.loop-digit-test.true c.in_err-number.ensures)
     ∙ c.loop-digit.invariant
-    ∙ number_some word (sym c.is-empty.ensures ∙ c.if-is-empty.false)
+    ∙ number_some word (sym c.is_empty.ensures ∙ c.if-is_empty.false)
 
 pub loop-digit-preserved : goal.loop-digit-preserved
 loop-digit-preserved c =
@@ -22,4 +22,4 @@ returns c =
     let word = c.args.word.now in
     sym (at_drop_all (with_digits c.loop-digit.number) word c.loop-digit.digit-index c.loop-digit-test.false)
     ∙ c.loop-digit.invariant
-    ∙ number_some word (sym c.is-empty.ensures ∙ c.if-is-empty.false)
+    ∙ number_some word (sym c.is_empty.ensures ∙ c.if-is_empty.false)

@@ -7,6 +7,6 @@ use Rattle.assembly.proofs.statements.enter.Goals as goal
 pub loop-word-preserved : goal.loop-word-preserved
 loop-word-preserved c =
     let grown = c.in-Ok.ensures in
-    entered_more c.loop-word.rest.now c.in-Some.word.now (words c.in-Some.tail.now) c.in-Some-entry-named.bad (trace_of c.loop-word.trace) (trace_of c.push-entry.new.self)
-    c.in-Some.ensures c.in-Some-entry-named.ensures grown.0 grown.1
+    entered_more c.loop-word.rest.now c.in-Some.word.now (words c.in-Some.tail.now) c.in-Some-entry_named.bad (trace_of c.loop-word.trace) (trace_of c.push_entry.new.self)
+    c.in-Some.ensures c.in-Some-entry_named.ensures grown.0 grown.1
     ∙ c.loop-word.invariant
