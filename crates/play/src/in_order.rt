@@ -37,7 +37,7 @@ fn answer_to<D: BenchDisk, P: Precedence>(
     call: TraceCall,
 ) -> Result<u32, PlayError>
     requires { (d : D) (w : Write) → D.Disk.rule d w ≡ join }
-    ensures outcome { answered result (model D.Disk.medium live.new) ≡ called (before live.old.order) (record { rule = join; tries = D.Disk.attempts }) call (model D.Disk.medium live.old) }
+    ensures outcome { answered result (model D.Disk.medium live.new) ≡ called (P.before live.old.order) (record { rule = join; tries = D.Disk.attempts }) call (model D.Disk.medium live.old) }
     ensures order { live.new.order ≡ live.old.order }
 {
     match call {
@@ -80,7 +80,7 @@ pub(crate) fn play_calls<D: BenchDisk + Drop, P: Precedence + Copy + Drop>(
 ) -> Result<(), AllocError>
     requires joins { (d : D) (w : Write) → D.Disk.rule d w ≡ join }
     requires order { live.order ≡ order }
-    ensures { OnOk result (lines.new.items ≡ lines.old.items ++ lines_from (before order) (record { rule = join; tries = D.Disk.attempts }) (model D.Disk.medium live) calls.now) }
+    ensures { OnOk result (lines.new.items ≡ lines.old.items ++ lines_from (P.before order) (record { rule = join; tries = D.Disk.attempts }) (model D.Disk.medium live) calls.now) }
 {
     let mut live = live;
     for call in calls {

@@ -1,1 +1,2 @@
 pub mod Retried
+pub mod Soundness

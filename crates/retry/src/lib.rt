@@ -5,7 +5,7 @@ ghost use Rattle.std.specs.Prelude.{◌≡◌};
 ghost use Rattle.disk.specs.Medium.{Alike};
 ghost use Rattle.disk.specs.Calls.{is_fault};
 ghost use Rattle.retry.specs.Retried.{retry_medium, tripled};
-ghost use Rattle.std.proofs.Common.{rules};
+ghost use Rattle.retry.specs.Soundness.{retry_sound};
 
 use disk::disk::{BenchDisk, Disk};
 use disk::error::{DiskError, Fault, Kind};
@@ -52,7 +52,7 @@ impl<D: BenchDisk> Disk for Retry<D> {
 
     ghost rule = { λ r w. D.Disk.rule r.disk w };
 
-    ghost sound = { Prim.search rules };
+    ghost sound = { λ r. retry_sound (D.Disk.medium r.disk) (D.Disk.sound r.disk) };
 
     fn tries() -> u32 {
         D::tries().saturating_mul(TRIES)

@@ -9,8 +9,8 @@ pub loop-i-preserved : goal.loop-i-preserved
 loop-i-preserved c =
     let i = c.loop-i.i in
     c.in_ok-push.ensures.items
-    ∙ ap (λ xs. xs ++ (c.call-at.result ∷ [])) c.loop-i.invariant
-    ∙ ap (λ (call : TraceCall). map drain_call (range_with_len 0 i) ++ (call ∷ [])) c.call-at.ensures
+    ∙ ap (λ xs. xs ++ (c.call_at.result ∷ [])) c.loop-i.invariant
+    ∙ ap (λ (call : TraceCall). map drain_call (range_with_len 0 i) ++ (call ∷ [])) c.call_at.ensures
     ∙ sym (map-range_with_len_more drain_call 0 i i (omega arith))
 
 pub returns : goal.returns

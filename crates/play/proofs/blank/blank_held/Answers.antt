@@ -6,17 +6,17 @@ use Rattle.play.proofs.blank.blank_held.Goals as goal
 
 pub unreachable-requires : goal.unreachable-requires
 unreachable-requires c =
-    let zeros = c.in_ok-memory.ensures.items-if-clones-equal (λ y e. e) in
-    let copied = c.in_ok-from-slice.ensures.items in
+    let zeros = c.in_ok-memory.ensures.items_if_clones_equal (λ y e. e) in
+    let copied = c.in_ok-from_slice.ensures.items in
     let both : true ≡ false = sym (usable_blank c.args.plan.now c.requires) ∙ sym (ap (λ m. usable m c.args.plan.now) zeros) ∙ sym (ap (usable (vec_items c.in_ok-memory.memory)) copied) ∙ c.in-Err.ensures.0 in
     let z : ◌≡◌ {A = ℕ} 0 1 = cc in
     omega arith
 
-pub returns-in_err-from-slice : goal.returns-in_err-from-slice
-returns-in_err-from-slice c = let p = err_from_is_err_and c.from-residual-in-err-from-slice.result c.from-residual-in-err-from-slice.ensures.1 in rw p.1 tt
+pub returns-in_err-from_slice : goal.returns-in_err-from_slice
+returns-in_err-from_slice c = let p = err_from_is_err_and c.from_residual-in_err-from_slice.result c.from_residual-in_err-from_slice.ensures.1 in rw p.1 tt
 
 pub returns : goal.returns
 returns c =
-    let zeros = c.in_ok-memory.ensures.items-if-clones-equal (λ y e. e) in
-    let copied = c.in_ok-from-slice.ensures.items in
+    let zeros = c.in_ok-memory.ensures.items_if_clones_equal (λ y e. e) in
+    let copied = c.in_ok-from_slice.ensures.items in
     c.in-Ok.ensures.1 ∙ ap (fresh _) copied ∙ ap (λ m. fresh m c.args.plan.now) zeros

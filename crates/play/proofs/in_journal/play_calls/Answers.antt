@@ -12,11 +12,11 @@ use Rattle.play.proofs.Telling.{one_more}
 use Rattle.play.proofs.in_journal.play_calls.Goals as goal
 use Rattle.play.proofs.in_journal.play_calls.Goals.{in-Some, in-None}
 
-pub recover-until-requires : goal.recover-until-requires
-recover-until-requires g c =
+pub recover_until-requires : goal.recover_until-requires
+recover_until-requires g c =
     let medium = g.D.Disk.medium in
-    let d = model medium c.answer-to-answer.new.live in
-    let running = runs_on (record { effect = join; tries = g.D.Disk.attempts }) (get_or c.args.calls.now c.loop-call.call-index (Begin 0 0)) (model medium c.loop-call.live) d c.answer-to-answer.result c.answer-to-answer.ensures c.loop-call.invariant.0 in
+    let d = model medium c.answer_to-answer.new.live in
+    let running = runs_on (record { effect = join; tries = g.D.Disk.attempts }) (get_or c.args.calls.now c.loop-call.call-index (Begin 0 0)) (model medium c.loop-call.live) d c.answer_to-answer.result c.answer_to-answer.ensures c.loop-call.invariant.0 in
     record { joins = c.requires.joins; recoverable = cut_recoverable d (medium c.cut-cold.result.disk) c.cut-cold.ensures.runs running }
 
 pub loop-call-init : goal.loop-call-init
@@ -28,19 +28,19 @@ loop-call-preserved g c =
     let device : Device = record { effect = join; tries = g.D.Disk.attempts } in
     let call = get_or c.args.calls.now c.loop-call.call-index (Begin 0 0) in
     let before = model medium c.loop-call.live in
-    let d = model medium c.answer-to-answer.new.live in
-    let r = c.answer-to-answer.result in
-    let did = c.answer-to-answer.ensures in
+    let d = model medium c.answer_to-answer.new.live in
+    let r = c.answer_to-answer.result in
+    let did = c.answer_to-answer.ensures in
     let tells = one_more (answer_in device) (left_in device) c.args.calls.now c.loop-call.call-index (Begin 0 0) c.loop-call-test.true _ (vec_items c.loop-call.lines) (vec_items c.push.new.self) before in
-    elim c.match-cut-choice.branch [
+    elim c.match-cut_choice.branch [
       | in-Some w ↦ (
-          let cold = w.recover-until.new.cold in
-          let k = w.recover-until.result in
-          let is = w.recover-until.ensures.accepted in
-          let recovered = w.recover-until.ensures.until ∙ ap recovered_until w.cut-cold.ensures.after in
+          let cold = w.recover_until.new.cold in
+          let k = w.recover_until.result in
+          let is = w.recover_until.ensures.accepted in
+          let recovered = w.recover_until.ensures.until ∙ ap recovered_until w.cut-cold.ensures.after in
           let whole = ap after_cut recovered ∙ ap (λ o. cut_by o (answered r d)) w.in-Some.ensures ∙ ap (cut_by (cut_choice call)) did in
           let made = ap (model medium) w.live-is in (
-            subst Running (sym made) (starts_running cold.accepted k (medium cold.disk) (model medium w.new-live.result) w.new-live.ensures is w.recover-until.ensures.starts),
+            subst Running (sym made) (starts_running cold.accepted k (medium cold.disk) (model medium w.new-live.result) w.new-live.ensures is w.recover_until.ensures.starts),
             tells _ _ _ c.loop-call.invariant.1 (w.answer-is ∙ ap (λ (p : Played). p.answer) whole)
                 (made ∙ w.new-live.ensures.empty k is ∙ ap (λ (p : Played). p.live) whole)
                 c.new.ensures c.in_ok-push.ensures.items,

@@ -21,18 +21,18 @@ loop-call-preserved g c =
     let device : Device = record { rule = join; tries = g.D.Disk.attempts } in
     let call = get_or c.args.calls.now c.loop-call.call-index (Begin 0 0) in
     let before = model medium c.loop-call.live in
-    let d = model medium c.answer-to-answer.new.live in
-    let did = c.answer-to-answer.ensures.outcome ∙ ap (λ o. called (precedes o) device call before) c.loop-call.invariant.0 in
+    let d = model medium c.answer_to-answer.new.live in
+    let did = c.answer_to-answer.ensures.outcome ∙ ap (λ o. called (precedes o) device call before) c.loop-call.invariant.0 in
     let tells = one_more (answer_in (precedes c.args.order) device) (left_in (precedes c.args.order) device) c.args.calls.now c.loop-call.call-index (Begin 0 0) c.loop-call-test.true _ (vec_items c.loop-call.lines) (vec_items c.push.new.self) before in
-    elim c.match-cut-choice.branch [
+    elim c.match-cut_choice.branch [
       | in-Some w ↦ (
-        ap (λ v. v.order) w.live-is ∙ w.taken-up-live.ensures.order,
+        ap (λ v. v.order) w.live-is ∙ w.taken_up-live.ensures.order,
         tells _ _ _ c.loop-call.invariant.1 (ap (λ (p : Played). p.answer) did)
-            (ap (model medium) w.live-is ∙ w.taken-up-live.ensures.after ∙ ap (λ m. made (opened_until m)) w.cut.ensures.after ∙ ap (λ o. cut_by o d) w.in-Some.ensures ∙ ap (λ (p : Played). cut_by (cut_choice call) p.cache) did)
+            (ap (model medium) w.live-is ∙ w.taken_up-live.ensures.after ∙ ap (λ m. made (opened_until m)) w.cut.ensures.after ∙ ap (λ o. cut_by o d) w.in-Some.ensures ∙ ap (λ (p : Played). cut_by (cut_choice call) p.cache) did)
             c.new.ensures c.in_ok-push.ensures.items,
       )
       | in-None w ↦ (
-        ap (λ v. v.order) w.live-is ∙ c.answer-to-answer.ensures.order ∙ c.loop-call.invariant.0,
+        ap (λ v. v.order) w.live-is ∙ c.answer_to-answer.ensures.order ∙ c.loop-call.invariant.0,
         tells _ _ _ c.loop-call.invariant.1 (ap (λ (p : Played). p.answer) did)
             (ap (model medium) w.live-is ∙ ap (λ o. cut_by o d) w.in-None.ensures ∙ ap (λ (p : Played). cut_by (cut_choice call) p.cache) did)
             c.new.ensures c.in_ok-push.ensures.items,

@@ -2,5 +2,5 @@ use Rattle.std.proofs.Common.{[], refl}
 use Rattle.play.proofs.Usable.{roomy}
 use Rattle.play.proofs.play.play_list.Goals as goal
 
-pub play-on-requires : goal.play-on-requires
-play-on-requires c = record { joins = λ d w. refl; room = roomy c.in_ok-disk.disk [] c.in_ok-disk.ensures }
+pub play_on-requires : goal.play_on-requires
+play_on-requires c = record { joins = λ d w. refl; room = roomy c.in_ok-disk.disk [] c.in_ok-disk.ensures }

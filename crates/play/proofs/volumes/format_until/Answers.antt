@@ -14,7 +14,7 @@ loop-preserved g c =
     let m = g.D.Disk.medium c.loop.cold.disk in
     let did = c.format.ensures.outcome ∙ ap (λ e. formatted tries e m) (c.requires.joins c.loop.cold.disk (head_write (home_blocks m) (empty_head 0))) in
     let room = c.loop.invariant.0 in
-    let fault : format_faults tries m ≡ true = sym (format_refused tries m room) ∙ sym (ap (λ (f : Formatted). is_err f.answer) did) ∙ sym c.is-err.ensures.value ∙ c.loop-test.true in
+    let fault : format_faults tries m ≡ true = sym (format_refused tries m room) ∙ sym (ap (λ (f : Formatted). is_err f.answer) did) ∙ sym c.is_err.ensures.value ∙ c.loop-test.true in
     let next = ap (λ (f : Formatted). f.medium) did in (
       subst (λ k. 10 ≤ size k) (sym next) (format_shorter tries m room fault).1,
       ap (λ k. formatted_until tries k) next ∙ goes_on (format_faults tries) (format_leaves tries) (format_leaves tries) (λ k. 10 ≤ size k) (λ k h e. format_shorter tries k h e) m room fault ∙ c.loop.invariant.1,
@@ -26,7 +26,7 @@ loop-smaller g c =
     let m = g.D.Disk.medium c.loop.cold.disk in
     let did = c.format.ensures.outcome ∙ ap (λ e. formatted tries e m) (c.requires.joins c.loop.cold.disk (head_write (home_blocks m) (empty_head 0))) in
     let room = c.loop.invariant.0 in
-    let fault : format_faults tries m ≡ true = sym (format_refused tries m room) ∙ sym (ap (λ (f : Formatted). is_err f.answer) did) ∙ sym c.is-err.ensures.value ∙ c.loop-test.true in
+    let fault : format_faults tries m ≡ true = sym (format_refused tries m room) ∙ sym (ap (λ (f : Formatted). is_err f.answer) did) ∙ sym c.is_err.ensures.value ∙ c.loop-test.true in
     subst (λ k. length k.plan < length m.plan) (sym (ap (λ (f : Formatted). f.medium) did)) (format_shorter tries m room fault).0
 
 pub returns : goal.returns
@@ -35,7 +35,7 @@ returns g c =
     let m = g.D.Disk.medium c.loop.cold.disk in
     let did = c.format.ensures.outcome ∙ ap (λ e. formatted tries e m) (c.requires.joins c.loop.cold.disk (head_write (home_blocks m) (empty_head 0))) in
     let room = c.loop.invariant.0 in
-    let fine : format_faults tries m ≡ false = sym (format_refused tries m room) ∙ sym (ap (λ (f : Formatted). is_err f.answer) did) ∙ sym c.is-err.ensures.value ∙ c.loop-test.false in
+    let fine : format_faults tries m ≡ false = sym (format_refused tries m room) ∙ sym (ap (λ (f : Formatted). is_err f.answer) did) ∙ sym c.is_err.ensures.value ∙ c.loop-test.false in
     let next = ap (λ (f : Formatted). f.medium) did in
     record {
       after = next ∙ ends (format_faults tries) (format_leaves tries) (format_leaves tries) (λ k. 10 ≤ size k) (λ k h e. format_shorter tries k h e) m fine ∙ c.loop.invariant.1;
