@@ -1,4 +1,4 @@
-// The player for C and Rust: a trace in, its listing into the caller's buffer; and a drain of a full table, for timing.
+// The player for callers that hold a buffer: a trace in, its listing into the caller's buffer; and a drain of a full table, for timing.
 #![tactic(auto)]
 
 ghost use Rattle.capi.specs.Buffers.{Written, Drained};
@@ -23,8 +23,7 @@ pub struct Play {
 }
 
 // What the player writes for the input goes to the front of the buffer, if it fits; else the buffer stays.
-#[unsafe(no_mangle)]
-pub extern "C" fn hecklemaroon_play(heap: Global, input: &[u8], buffer: &mut [u8]) -> Play
+pub fn hecklemaroon_play(heap: Global, input: &[u8], buffer: &mut [u8]) -> Play
     ensures { Written input.now buffer.old result.code result.length buffer.new }
 {
     let Ok(text) = output(heap, input) else {
@@ -46,8 +45,7 @@ pub extern "C" fn hecklemaroon_play(heap: Global, input: &[u8], buffer: &mut [u8
 }
 
 // Fills a table of 32 writes and drains it in rounds, at most 1,000, under overlap or line; the length says how many writes went to the disk.
-#[unsafe(no_mangle)]
-pub extern "C" fn hecklemaroon_drain(heap: Global, in_line: bool, rounds: u16) -> Play
+pub fn hecklemaroon_drain(heap: Global, in_line: bool, rounds: u16) -> Play
     ensures { Drained in_line rounds result.code result.length }
 {
     let mode = if in_line { Mode::Line } else { Mode::Overlap };
