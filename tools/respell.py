@@ -70,6 +70,9 @@ def declared():
         for m in re.finditer(r"\bas (" + NAME + r")", read(path)):
             if "-" in m[1]:
                 own[m[1]].add(path)
+    for path in files(".rt"):
+        for m in re.finditer(r"(?m)^ghost use [^;]*;", read(path)):
+            own.update({name: {path} for name in re.findall(r"\bas (" + NAME + r")", m[0]) if "-" in name})
     return own, inner
 
 

@@ -1,8 +1,8 @@
 ghost use Rattle.std.specs.Prelude.{◌≡◌, ◌<◌, false, [], ◌∷◌, ◌++◌, length, take, slice_index_or};
 ghost use Rattle.std.specs.Option.{option_map};
 ghost use Rattle.head.specs.Head.{holds as among};
-ghost use Rattle.journal_law.specs.Cache.{find as found-open, without, collect as collected, cached};
-ghost use Rattle.batch.specs.Rows.{no_entry, entries, begun_list, write_list, place_list, begun_in, write_in, test, first_from, Within, outside as places-outside};
+ghost use Rattle.journal_law.specs.Cache.{find as found_open, without, collect as collected, cached};
+ghost use Rattle.batch.specs.Rows.{no_entry, entries, begun_list, write_list, place_list, begun_in, write_in, test, first_from, Within, outside as places_outside};
 ghost use Rattle.batch.specs.Options.{maybe};
 
 use crate::entry::{Entry, Query};
@@ -84,7 +84,7 @@ impl Batch {
 
     // The write with the mark leaves the batch; those behind it move up.
     pub fn take(&mut self, mark: u32) -> Option<Entry>
-        ensures taken { maybe (option_map begun_in result) ≡ found-open mark (begun_list self.old) }
+        ensures taken { maybe (option_map begun_in result) ≡ found_open mark (begun_list self.old) }
         ensures rest { begun_list self.new ≡ without mark (begun_list self.old) }
     {
         let row = self.position(Query::Mark(mark))?;
@@ -118,7 +118,7 @@ impl Batch {
 
     // How many writes are at places that the other batch does not hold.
     pub fn outside(&self, other: &Batch) -> usize
-        ensures { result ≡ places-outside (place_list self.now) (place_list other.now) }
+        ensures { result ≡ places_outside (place_list self.now) (place_list other.now) }
     {
         let mut found = 0;
         for i in 0..self.count {

@@ -1,7 +1,7 @@
 // The calls that move the tables alone.
 ghost use Rattle.std.specs.Prelude.{◌≡◌, ◌<◌, false, ◌∷◌, ◌++◌, map};
 ghost use Rattle.head.specs.Head.{holds};
-ghost use Rattle.journal_law.specs.Cache.{begin as begin_call, finish as finish_call, withdraw as withdraw_call, seal as seal-call, place_of, begun_place, different};
+ghost use Rattle.journal_law.specs.Cache.{begin as begin_call, finish as finish_call, withdraw as withdraw_call, seal as seal_call, place_of, begun_place, different};
 ghost use Rattle.journal_law.specs.Laws.{RunsOn};
 ghost use Rattle.batch.specs.Rows.{begun_list, write_list};
 ghost use Rattle.journal.specs.Model.{model, does, marked, done};
@@ -87,8 +87,8 @@ impl<D: BenchDisk> Live<D> {
 
     // The collected blocks become the sealed group; its number is the answer.
     pub fn seal(&mut self) -> Result<u32, CacheError>
-        ensures outcome { record { answer = marked result; live = model D.Disk.medium self.new } ≡ does D.Disk.medium D.Disk.rule D.Disk.attempts self.old seal-call }
-        ensures runs { RunsOn seal-call (model D.Disk.medium self.old) (marked result) (model D.Disk.medium self.new) }
+        ensures outcome { record { answer = marked result; live = model D.Disk.medium self.new } ≡ does D.Disk.medium D.Disk.rule D.Disk.attempts self.old seal_call }
+        ensures runs { RunsOn seal_call (model D.Disk.medium self.old) (marked result) (model D.Disk.medium self.new) }
     {
         if self.phase.is_some() {
             return Err(CacheError::GroupUnderWay);

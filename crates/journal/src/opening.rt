@@ -1,6 +1,6 @@
 // The making of a live cache, and its end.
 ghost use Rattle.std.specs.Prelude.{◌≡◌, true, is_some};
-ghost use Rattle.disk.specs.Medium.{cut as cut-medium};
+ghost use Rattle.disk.specs.Medium.{cut as cut_medium};
 ghost use Rattle.journal_volume.specs.Recovering.{not_accepted};
 ghost use Rattle.journal.specs.Model.{model};
 ghost use Rattle.journal.specs.Ends.{Starts, EndsIn};
@@ -36,7 +36,7 @@ impl<D: BenchDisk> Live<D> {
 
     // Ends the cache: its disk, cut, is a cold volume.
     pub fn cut(self, choice: u8) -> Cold<D>
-        ensures after { D.Disk.medium result.disk ≡ cut-medium choice (D.Disk.medium self.disk) }
+        ensures after { D.Disk.medium result.disk ≡ cut_medium choice (D.Disk.medium self.disk) }
         ensures cold { result.accepted ≡ not_accepted }
         ensures runs { EndsIn (model D.Disk.medium self) (D.Disk.medium result.disk) }
     {

@@ -2,7 +2,7 @@
 ghost use Rattle.std.specs.Prelude.{◌≡◌, length};
 ghost use Rattle.disk.specs.Calls.{fate, shows};
 ghost use Rattle.errors.specs.Errors.{raised};
-ghost use Rattle.errors.specs.declared.CacheCall.TheVariants as during-of;
+ghost use Rattle.errors.specs.declared.CacheCall.TheVariants as during_of;
 ghost use Rattle.ordered_law.specs.Events.{Read};
 ghost use Rattle.ordered_law.specs.Cache.{read_call};
 ghost use Rattle.ordered_law.specs.Runs.{RunsOn};
@@ -17,7 +17,7 @@ use table::scan::newest_at;
 
 impl<D: BenchDisk, P: Precedence> Live<D, P> {
     fn read_disk(&mut self, place: usize, buffer: &mut [u8]) -> Result<(), CacheError>
-        ensures answer { result ≡ raised during-of.Read (read_answer D.Disk.attempts (D.Disk.medium self.old.disk) place (length buffer.old)) }
+        ensures answer { result ≡ raised during_of.Read (read_answer D.Disk.attempts (D.Disk.medium self.old.disk) place (length buffer.old)) }
         ensures medium { D.Disk.medium self.new.disk ≡ read_leaves (D.Disk.medium self.old.disk) place (length buffer.old) }
         ensures buffer { buffer.new ≡ shows (D.Disk.medium self.old.disk) place buffer.old (fate (D.Disk.medium self.old.disk) place (length buffer.old)) }
         ensures table { self.new.table ≡ self.old.table }

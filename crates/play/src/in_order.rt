@@ -2,7 +2,7 @@
 ghost use Rattle.std.specs.Prelude.{◌≡◌, ◌+◌, ◌≤◌, true, ◌++◌, length, vec_len, vec_capacity, OnOk};
 ghost use Rattle.disk.specs.Medium.{Write, join};
 ghost use Rattle.ordered.specs.Model.{model};
-ghost use Rattle.ordered.specs.Opening.{made as made-over};
+ghost use Rattle.ordered.specs.Opening.{made as made_over};
 ghost use Rattle.play.specs.InOrder.{opened_until, answered, called, lines_from, ordered_lines};
 
 use disk::disk::{BLOCK, BenchDisk};
@@ -24,7 +24,7 @@ fn open_until<D: BenchDisk>(cold: &mut Cold<D>)
 
 // A live cache over a volume that is taken up cold.
 pub(crate) fn taken_up<D: BenchDisk, P: Precedence>(mut cold: Cold<D>, order: P) -> Live<D, P>
-    ensures after { model D.Disk.medium result ≡ made-over (opened_until (D.Disk.medium cold.disk)) }
+    ensures after { model D.Disk.medium result ≡ made_over (opened_until (D.Disk.medium cold.disk)) }
     ensures order { result.order ≡ order }
 {
     open_until(&mut cold);

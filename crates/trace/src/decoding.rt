@@ -1,5 +1,5 @@
 ghost use Rattle.std.specs.Prelude.{◌≡◌, IfOk, vec_items};
-ghost use Rattle.trace.specs.Format.{decode as decoded, encode as encoded, canonical as canonical-form, calls_of};
+ghost use Rattle.trace.specs.Format.{decode as decoded, encode as encoded, canonical as canonical_form, calls_of};
 ghost use Rattle.trace.specs.Traces.{trace_of, Finds, no_memory, refusal_number};
 
 use crate::call::TraceCall;
@@ -68,7 +68,7 @@ fn calls(heap: Global, bytes: &[u8]) -> Result<Vec<TraceCall>, DecodeError>
 // The trace in the bytes. Encoded again, it gives the bytes but for those that are ignored.
 pub fn decode(heap: Global, bytes: &[u8]) -> Result<Trace, DecodeError>
     ensures value { Finds trace_of (decoded bytes.now) result }
-    ensures canonical { IfOk result (λ t. canonical-form bytes.now ≡ encoded (trace_of t)) }
+    ensures canonical { IfOk result (λ t. canonical_form bytes.now ≡ encoded (trace_of t)) }
 {
     let Some(sections) = split(bytes) else {
         return Err(DecodeError::Malformed);

@@ -1,7 +1,7 @@
 // The sections of an encoded trace, as parts of the input.
 ghost use Rattle.std.specs.Prelude.{◌≡◌, ◌≤◌};
 ghost use Rattle.std.specs.Option.{option_map};
-ghost use Rattle.trace.specs.Format.{section as section-of, sections as sections-of, all_entries};
+ghost use Rattle.trace.specs.Format.{section as section_of, sections as sections_of, all_entries};
 ghost use Rattle.trace.specs.Lent.{both_now, sections_now};
 
 use crate::call::{CALL_BYTES, Mode, flag_from_byte};
@@ -22,7 +22,7 @@ pub(crate) struct Sections<'a> {
 // A section's entries, at most so many and each of one width, and what follows them.
 fn section(bytes: &[u8], most: usize, width: usize) -> Option<(&[u8], &[u8])>
     requires { width ≤ 4 }
-    ensures { option_map both_now result ≡ section-of most width bytes.now }
+    ensures { option_map both_now result ≡ section_of most width bytes.now }
 {
     let [low, high, rest @ ..] = bytes else {
         return None;
@@ -36,7 +36,7 @@ fn section(bytes: &[u8], most: usize, width: usize) -> Option<(&[u8], &[u8])>
 
 // The three sections, if the input is made of them and nothing else.
 pub(crate) fn split(bytes: &[u8]) -> Option<Sections<'_>>
-    ensures { option_map sections_now result ≡ sections-of bytes.now }
+    ensures { option_map sections_now result ≡ sections_of bytes.now }
 {
     let [count, mode, retry, rest @ ..] = bytes else {
         return None;
