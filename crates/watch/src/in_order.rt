@@ -60,8 +60,8 @@ impl<P: Precedence> OrderedWatch<P> {
 
     // Sends the row that the cache's step has sent.
     fn sent(&mut self) -> Deed
-        ensures told { result ≡ written_place (lowest_ready (before self.old.order) self.old.table.rows) self.old.table.rows }
-        ensures rows { self.new.table.rows ≡ stepped_rows (before self.old.order) 1 self.old.table.rows }
+        ensures told { result ≡ written_place (lowest_ready (P.before self.old.order) self.old.table.rows) self.old.table.rows }
+        ensures rows { self.new.table.rows ≡ stepped_rows (P.before self.old.order) 1 self.old.table.rows }
         ensures order { self.new.order ≡ self.old.order }
     {
         let Some(ready) = lowest_ready(&self.table, &self.order) else {
@@ -74,8 +74,8 @@ impl<P: Precedence> OrderedWatch<P> {
 
     // The step's answer says that it wrote, flushed or did nothing.
     fn stepped(&mut self, value: u32) -> Deed
-        ensures told { result ≡ (if nat_eq value 1 then written_place (lowest_ready (before self.old.order) self.old.table.rows) self.old.table.rows else Unseen) }
-        ensures rows { self.new.table.rows ≡ stepped_rows (before self.old.order) value self.old.table.rows }
+        ensures told { result ≡ (if nat_eq value 1 then written_place (lowest_ready (P.before self.old.order) self.old.table.rows) self.old.table.rows else Unseen) }
+        ensures rows { self.new.table.rows ≡ stepped_rows (P.before self.old.order) value self.old.table.rows }
         ensures order { self.new.order ≡ self.old.order }
     {
         if value == WRITTEN {

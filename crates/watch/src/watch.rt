@@ -23,8 +23,8 @@ pub trait Watch {
 
 // What the call of a line wrote. A refused call changes nothing.
 pub fn deed_of<W: Watch>(watch: &mut W, call: TraceCall, line: Line) -> Deed
-    ensures told { result ≡ (if nat_eq line.answer 0 then deed watch.old call line.value else Unseen) }
-    ensures accepted { line.answer ≡ 0 → moves watch.old call line.value watch.new }
+    ensures told { result ≡ (if nat_eq line.answer 0 then W.deed watch.old call line.value else Unseen) }
+    ensures accepted { line.answer ≡ 0 → W.moves watch.old call line.value watch.new }
     ensures refused { (line.answer ≢ 0) → watch.new ≡ watch.old }
 {
     if line.answer == 0 {

@@ -5,12 +5,12 @@ use Rattle.batch.specs.declared.entry.Entry.{Entry}
 use Rattle.batch.specs.Rows.{entries, begun_in, begun_list}
 use Rattle.watch.proofs.in_journal.JournalWatch.begun.Goals as goal
 
-pub returns-then-len-lt-MOST-PLACES : goal.returns-then-len-lt-MOST-PLACES
-returns-then-len-lt-MOST-PLACES c =
+pub returns-then-len-lt-MOST_PLACES : goal.returns-then-len-lt-MOST_PLACES
+returns-then-len-lt-MOST_PLACES c =
     let opens = c.args.self.now.opens in
     let entry : Entry = record { mark = c.args.mark; place = c.args.place; bytes = replicate 512 c.args.fill } in
     let room : ltb (length (begun_list opens)) 8 ≡ true =
-    lt-ltb (length (begun_list opens)) 8 (omega (arith, length-map (entries opens) begun_in, c.len.ensures, c.if-len-lt-MOST-PLACES.true)) in
+    lt-ltb (length (begun_list opens)) 8 (omega (arith, length-map (entries opens) begun_in, c.len.ensures, c.if-len-lt-MOST_PLACES.true)) in
     record {
       opens =
           ap (map begun_in) (c.push.ensures ∙ ap (λ (e : Entry). entries opens ++ (e ∷ [])) c.new.ensures)
