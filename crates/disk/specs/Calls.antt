@@ -2,10 +2,9 @@
 use Rattle.std.specs.Prelude.{◌≡◌, ℕ, ◌<◌, Bool, true, false, cond, ◌⊎◌, List, [], length, Ok, Err, Result, ◌==◌, nat_lt, slice_index_or}
 use Rattle.disk.specs.declared.error.Kind.{Kind}
 use Rattle.disk.specs.declared.error.Kind.TheVariants as kind
-use Rattle.disk.specs.declared.error.Fault.{Fault}
 use Rattle.disk.specs.declared.error.DiskError.{DiskError}
 use Rattle.disk.specs.declared.error.DiskError.TheVariants as error
-use Rattle.disk.specs.Medium.{Entry, good, bad, Medium, Effect, Write, size, current, due, later, passed, joined, settled, flushed, put}
+use Rattle.disk.specs.Medium.{Entry, good, bad, Medium, Effect, size, current, due, later, passed, joined, settled, flushed, put}
 
 abbrev pub Answer : Type 0
 Answer = Result (Unit {0}) DiskError

@@ -14,7 +14,7 @@ use Rattle.errors.specs.declared.CacheError.TheVariants as error
 use Rattle.errors.specs.Errors.{raised, during_call}
 use Rattle.head.specs.Head.{holds}
 use Rattle.journal_law.specs.Device.{Device}
-use Rattle.journal_law.specs.Cache.{Begun, Group, Live, opened, Call, begin, finish, withdraw, read, seal, step, restart, Answer, accepted, shown, refused, Outcome, decided, place_of, begun_place, different, begun, find, without, collect, finished, withdrawn, cached, group_writes, read_disk, read_shown, is_some, sealed, DiskCall, write, phase_call, next_phase, restarted_phase, in_phase, good_answer, call_fate, call_answer, good_medium, asked_write, step_met, stepped, group_restarted, slot, slots_flush, home, homes_flush, step_asks, group_asks, with_medium, outcome, with_group}
+use Rattle.journal_law.specs.Cache.{Begun, Group, Live, opened, Call, begin, finish, withdraw, read, seal, step, restart, Answer, accepted, shown, refused, Outcome, decided, place_of, begun_place, different, begun, find, without, collect, finished, withdrawn, cached, group_writes, read_disk, read_shown, is_some, sealed, DiskCall, phase_call, next_phase, restarted_phase, in_phase, good_answer, call_fate, call_answer, good_medium, asked_write, step_met, stepped, group_restarted, slot, slots_flush, home, homes_flush, step_asks, group_asks, with_medium, outcome, with_group}
 use Rattle.journal_law.specs.Recovery.{home_blocks}
 use Rattle.journal_law.specs.Laws.{JustRecovered, Ran, no_call, Laws, RunsOn}
 use Rattle.journal_volume.specs.Recovering.{with_number}

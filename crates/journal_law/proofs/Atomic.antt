@@ -6,7 +6,7 @@ use Rattle.disk.specs.Medium.{Effect, Block, Write, Medium, current, cut}
 use Rattle.errors.specs.declared.CacheError.{CacheError}
 use Rattle.head.specs.Head.{encode, decode, empty_head}
 use Rattle.journal_law.specs.Device.{Device}
-use Rattle.journal_law.specs.Recovery.{Recovery, Broken, recovered, started, calls, after_broken}
+use Rattle.journal_law.specs.Recovery.{Broken, recovered, started, calls, after_broken}
 use Rattle.journal_law.specs.Cache.{Begun, Phase, slot, slots_flush, head, head_flush, home, homes_flush, empty, empty_flush, Group, Live, Call, begin, finish, withdraw, read, seal, step, restart, Answer, accepted, shown, refused, find, decided, seal_refusal, sealed, outcome_in, next_phase, restarted_phase, opened}
 use Rattle.journal_law.specs.Ledger.{Sealing, UnderWay, Ledger, opening_ledger, note, now_finished, gone_back, moved, committed_by, in_phase_now, laid, by_mark, write_of}
 use Rattle.journal_law.specs.Laws.{Shows, ShowsLast, Safe}

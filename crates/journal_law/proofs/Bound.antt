@@ -1,6 +1,6 @@
 -- A group under way leaves the cache: the disk calls that it has left, with the bad entries left in the plan, fall at every step and rise at
 -- no other call but restart.
-use Rattle.std.proofs.Common.{◌≡◌, ℕ, suc, ◌+◌, ◌-◌, ◌≤◌, Bool, true, false, cond, ltb, List, [], ◌∷◌, ◌++◌, length, sym, refl, ap, ◌∙◌, subst, arith}
+use Rattle.std.proofs.Common.{◌≡◌, ℕ, suc, ◌+◌, ◌≤◌, Bool, true, false, cond, ltb, List, [], ◌∷◌, ◌++◌, length, sym, refl, ap, ◌∙◌, subst, arith}
 use mathlib.Core.Option.{Option, some, none}
 use Rattle.std.proofs.lemmas.Bool.{ltb-true}
 use Rattle.disk.specs.Medium.{Effect, Block, Write, Entry, good, bad, due, later, Medium, size}

@@ -4,7 +4,7 @@ use Rattle.std.proofs.Common.{◌≡◌, ℕ, zero, suc, ◌+◌, ◌<◌, ◌�
 use mathlib.Core.Option.{some}
 use Rattle.std.proofs.lemmas.List.{get_or-set_same, get_or-set_other}
 use Rattle.std.proofs.lemmas.Bool.{eq-eqb}
-use Rattle.disk.specs.Medium.{Effect, Block, Write, Medium, current, flushed, cut}
+use Rattle.disk.specs.Medium.{Effect, Block, Write, Medium, current, flushed}
 use Rattle.journal_law.proofs.Media.{wrote, Keeps, Allowed, kept_current, kept_flushed, kept_wrote, current_wrote, length_current, over, over_twice, get_d_set}
 use Rattle.head.specs.Head.{Head, encode, decode, empty_head}
 use Rattle.journal_law.specs.Recovery.{slot_place, head_write}

@@ -5,7 +5,7 @@ use Rattle.std.proofs.ByRecursion.{All-append}
 use Rattle.disk.specs.declared.error.Kind.{Kind}
 use Rattle.disk.specs.declared.error.Kind.TheVariants as kind
 use Rattle.disk.specs.declared.error.DiskError.{DiskError}
-use Rattle.disk.specs.Medium.{Block, Write, Effect, Entry, good, bad, Medium, size, current, due, passed, flushed, put}
+use Rattle.disk.specs.Medium.{Block, Effect, Entry, good, bad, Medium, size, current, due, passed, flushed, put}
 use Rattle.disk.specs.Calls.{Answer, Fate, answer, leaves, fate, planned, shows, by_entry as fate_by, Reads, WritesBy, Flushes}
 use Rattle.errors.specs.declared.VolumeError.{VolumeError}
 use Rattle.errors.specs.declared.VolumeError.TheVariants as volume

@@ -1,5 +1,5 @@
 -- A mark in two blocks.
-use Rattle.std.specs.Prelude.{◌≡◌, ℕ, ◌+◌, ◌*◌, ◌/◌, ◌%◌, ◌<◌, Bool, true, false, cond, ◌&&◌, List, ◌∷◌, replicate, ◌==◌, slice_index}
+use Rattle.std.specs.Prelude.{◌≡◌, ℕ, ◌+◌, ◌*◌, ◌/◌, ◌%◌, Bool, true, false, cond, ◌&&◌, List, ◌∷◌, replicate, ◌==◌, slice_index}
 use Rattle.mark.specs.declared.Side.{Side}
 use Rattle.mark.specs.declared.Side.TheVariants.{Upstream, Downstream}
 use Rattle.mark.specs.declared.Mark.{Mark}

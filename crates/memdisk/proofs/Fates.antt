@@ -1,5 +1,5 @@
 -- What a call of a disk in memory meets, by its checks and its plan.
-use Rattle.std.proofs.Common.{◌≡◌, ℕ, ◌<◌, ◌≤◌, Bool, true, false, cond, eqb, ltb, List, [], ◌∷◌, length, get_or, Ok, Err, vec_items, Result, sym, refl, ap, ◌∙◌, subst, arith, ltb-true, le-ltb, lt-ltb, eqb-true}
+use Rattle.std.proofs.Common.{◌≡◌, ℕ, ◌<◌, ◌≤◌, Bool, true, false, cond, eqb, ltb, List, [], length, get_or, Ok, Err, vec_items, sym, refl, ap, ◌∙◌, subst, arith, ltb-true, le-ltb, lt-ltb, eqb-true}
 use Rattle.std.proofs.lemmas.List.{length-map}
 use Rattle.disk.specs.declared.error.Kind.{Kind}
 use Rattle.disk.specs.declared.error.Kind.TheVariants as kind
@@ -11,7 +11,7 @@ use Rattle.disk.specs.Medium.{Medium, Entry, Write, Effect, join, settle, size, 
 use Rattle.disk.specs.Calls.{Answer, Fate, by_entry, wrong_length, wrong_place, failed, served, answer, fate, fate_under, leaves, shows, spent, Reads, WritesBy}
 use Rattle.disk.proofs.Media.{with_plan}
 use Rattle.memdisk.specs.Admission.{Admits}
-use Rattle.memdisk.specs.Parts.{blocks_of, plan_of, medium_of, as_write, writes_of}
+use Rattle.memdisk.specs.Parts.{blocks_of, medium_of, as_write, writes_of}
 use Rattle.memdisk.specs.Memory.{blocks_in}
 use Rattle.memdisk.specs.Making.{Holds}
 use Rattle.memdisk.specs.Chunks.{length_blocks}

@@ -1,10 +1,9 @@
 -- Writes laid on blocks one by one.
-use Rattle.std.proofs.Common.{◌≡◌, ℕ, zero, suc, ◌+◌, ◌-◌, ◌/◌, ◌%◌, ◌<◌, ◌≤◌, true, false, cond, eqb, ◌≢◌, List, [], ◌∷◌, ◌++◌, map, length, get_or, take, drop, set, sym, refl, ap, ◌∙◌, arith, eq-eqb}
-use Rattle.std.specs.List.{AllByRecursion as All}
+use Rattle.std.proofs.Common.{◌≡◌, ℕ, zero, suc, ◌+◌, ◌-◌, ◌/◌, ◌%◌, ◌<◌, ◌≤◌, false, cond, eqb, ◌≢◌, List, [], ◌∷◌, ◌++◌, length, get_or, take, set, sym, refl, ap, ◌∙◌, arith, eq-eqb}
 use Rattle.std.proofs.lemmas.Bool.Decides.{nat_tests}
 use Rattle.std.proofs.lemmas.List.{length-set, map_more, get_or-set_same, get_or-set_other}
 use Rattle.memdisk.specs.declared.loose.LooseWrite.{LooseWrite}
-use Rattle.disk.specs.Medium.{Block, Write, Fitting, IsBlock, lay, standing}
+use Rattle.disk.specs.Medium.{Block, Write, Fitting, lay, standing}
 use Rattle.memdisk.specs.Parts.{as_write, writes_of, no_write, EachFits}
 
 pub each_fits_push : (n : ℕ) (ws : List LooseWrite) (w : LooseWrite) → EachFits n ws → Fitting n (as_write w) → EachFits n (ws ++ w ∷ [])

@@ -1,12 +1,12 @@
 -- What a block-wise read and write of memory does to its blocks.
-use Rattle.std.specs.Prelude.{◌≡◌, ℕ, zero, suc, ◌+◌, ◌-◌, ◌*◌, ◌<◌, ◌≤◌, not, List, [], ◌∷◌, ◌++◌, map, length, take, drop, ◌==◌, slice_index, slice_index_or, slice_set, refl}
+use Rattle.std.specs.Prelude.{◌≡◌, ℕ, zero, suc, ◌+◌, ◌*◌, ◌<◌, ◌≤◌, not, List, [], ◌∷◌, ◌++◌, map, length, take, drop, ◌==◌, slice_index, slice_index_or, slice_set, refl}
 use Rattle.std.proofs.Common.{sym, ap, ◌∙◌, arith}
 use borrow.Rule.Slice.PartMut.{put_mid}
 use Rattle.std.specs.List.{AllByRecursion as All}
 use Rattle.std.proofs.lemmas.List.{length-take, length-drop, length-take-le, take_at, drop_at, drop-drop, drop-append-le, drop-take, drop_more, drop_all, length-append}
 use Rattle.std.proofs.lemmas.Bool.Decides.{nat_tests}
 use Rattle.std.proofs.lemmas.Slice.{take-put_mid_below}
-use Rattle.disk.specs.Medium.{Block, IsBlock}
+use Rattle.disk.specs.Medium.{IsBlock}
 use Rattle.memdisk.specs.Memory.{blocks_in, entry, entries, is_bad}
 
 pub length_blocks : (n : ℕ) (xs : List ℕ) → length (blocks_in n xs) ≡ n

@@ -1,11 +1,11 @@
 -- A format over a disk whose writes join.
-use Rattle.std.proofs.Common.{◌≡◌, ℕ, ◌+◌, ◌-◌, ◌<◌, ◌≤◌, Bool, true, false, cond, ltb, ◌⊎◌, List, [], ◌∷◌, length, get_or, set, is_err, Err, sym, refl, ap, ◌∙◌, subst, inl, inr, arith, le-ltb}
+use Rattle.std.proofs.Common.{◌≡◌, ℕ, ◌+◌, ◌<◌, ◌≤◌, true, false, cond, List, [], ◌∷◌, length, get_or, set, is_err, Err, sym, refl, ap, ◌∙◌, subst, arith, le-ltb}
 use Rattle.std.proofs.lemmas.List.{get_or-set_same}
 use Rattle.disk.specs.Medium.{Write, Entry, good, bad, Medium, join, size, due, later, lay, standing, current, passed, flushed, put}
 use Rattle.disk.specs.declared.error.Kind.TheVariants as kind
 use Rattle.errors.specs.declared.VolumeError.TheVariants as volume
 use Rattle.head.specs.Head.{encode, decode, empty_head}
-use Rattle.journal_law.specs.Recovery.{home_blocks, head_write, by_entry, fault, Formatted, format_flush, format_write, formatted, head_seen, started, recovered, calls}
+use Rattle.journal_law.specs.Recovery.{home_blocks, head_write, by_entry, fault, Formatted, format_flush, format_write, formatted, head_seen, recovered}
 use Rattle.journal_law.specs.Cache.{opened}
 use Rattle.journal_law.specs.Laws.{JustRecovered, no_call, between}
 use Rattle.journal_law.proofs.Media.{length_lay, current_wrote, wrote_plan, length_wrote}

@@ -1,5 +1,5 @@
 -- The history of a volume goes on with every call, with a cut and with a recovery.
-use Rattle.std.proofs.Common.{◌≡◌, ℕ, [], ◌∷◌, ◌++◌, replicate, Option, Result, sym, ap, ◌∙◌, subst}
+use Rattle.std.proofs.Common.{◌≡◌, ℕ, [], ◌∷◌, ◌++◌, replicate, Option, Result, sym, ap, subst}
 use Rattle.disk.specs.Medium.{Medium}
 use Rattle.journal_law.specs.Device.{Device}
 use Rattle.journal_law.specs.Recovery.{home_blocks}
@@ -11,7 +11,7 @@ use Rattle.journal.specs.Ends.{Starts, EndsIn}
 use Rattle.trace.specs.declared.call.TraceCall.{TraceCall}
 use Rattle.trace.specs.declared.call.TraceCall.TheVariants as trace
 use Rattle.listing.specs.declared.play_error.PlayError.{PlayError}
-use Rattle.play.specs.InJournal.{Played, answered, called, live_from}
+use Rattle.play.specs.InJournal.{Played, answered, called}
 use Rattle.play.specs.Histories.{Running, Recoverable}
 
 -- one more call

@@ -1,5 +1,5 @@
 -- An opening that fails, and one that does not.
-use Rattle.std.proofs.Common.{◌≡◌, ℕ, ◌<◌, Bool, true, false, List, [], ◌∷◌, length, is_err, Result, sym, refl, ap, ◌∙◌, arith}
+use Rattle.std.proofs.Common.{◌≡◌, ℕ, ◌<◌, true, false, List, [], ◌∷◌, length, is_err, Result, sym, refl, ap, ◌∙◌, arith}
 use Rattle.disk.specs.Medium.{Block, Write, Entry, good, bad, Medium}
 use Rattle.errors.specs.declared.VolumeError.{VolumeError}
 use Rattle.ordered.specs.Opening.{open_answer, flush_leaves}

@@ -1,8 +1,8 @@
 -- A recovery over a disk whose writes join.
-use Rattle.std.proofs.Common.{◌≡◌, ℕ, suc, ◌-◌, ◌<◌, ◌≤◌, Bool, true, false, cond, eqb, ltb, List, [], ◌∷◌, length, get_or, replicate, Ok, Err, Result, sym, refl, ap, ◌∙◌, subst, arith}
+use Rattle.std.proofs.Common.{◌≡◌, ℕ, suc, ◌-◌, ◌<◌, ◌≤◌, Bool, true, false, cond, eqb, ltb, List, [], ◌∷◌, length, get_or, replicate, Ok, Err, sym, refl, ap, ◌∙◌, arith}
 use mathlib.Core.Option.{Option, some, none}
 use Rattle.disk.specs.declared.error.DiskError.{DiskError}
-use Rattle.disk.specs.Medium.{Block, Write, Effect, join, Entry, good, bad, Medium, size, due, later, current, put}
+use Rattle.disk.specs.Medium.{Write, Effect, join, Entry, good, bad, Medium, size, due, later, current, put}
 use Rattle.errors.specs.declared.VolumeError.{VolumeError}
 use Rattle.errors.specs.declared.VolumeError.TheVariants as volume
 use Rattle.head.specs.Head.{Head, decode, empty_head}

@@ -1,5 +1,5 @@
 -- The calls of a trace, played on the journaled cache over a disk whose writes join.
-use Rattle.std.specs.Prelude.{ℕ, zero, suc, Bool, true, false, cond, List, [], ◌∷◌, length, replicate, Some, None, Ok, Err, Option, Result, slice_index}
+use Rattle.std.specs.Prelude.{ℕ, zero, suc, Bool, true, false, cond, List, length, replicate, Some, None, Ok, Err, Option, Result, slice_index}
 use Rattle.disk.specs.Medium.{Medium, join, cut}
 use Rattle.errors.specs.declared.VolumeError.{VolumeError}
 use Rattle.errors.specs.declared.VolumeError.TheVariants as volume

@@ -1,9 +1,9 @@
 -- Why three tries on a plan are one try on the plan worked out from it.
-use Rattle.std.proofs.Common.{◌≡◌, ℕ, zero, suc, ◌+◌, ◌<◌, Bool, true, false, cond, ◌&&◌, eqb, ltb, List, [], ◌∷◌, length, drop, Ok, Err, sym, refl, ap, ◌∙◌, subst, add-one, arith, below_more}
+use Rattle.std.proofs.Common.{◌≡◌, ℕ, zero, suc, ◌+◌, ◌<◌, Bool, true, false, cond, eqb, ltb, List, [], ◌∷◌, length, drop, sym, refl, ap, ◌∙◌, subst, add-one, arith, below_more}
 use Rattle.disk.specs.declared.error.Kind.{Kind}
 use Rattle.disk.specs.declared.error.Kind.TheVariants as kind
 use Rattle.disk.specs.Medium.{Write, Entry, good, bad, Medium, Effect, join, settle, size, due, later, passed, flushed, allowed, take_effect, put}
-use Rattle.disk.specs.Calls.{is_fault, Answer, Fate, wrong_length, wrong_place, failed, served, by_entry, answer, fate, leaves, shows, spent, Reads, WritesBy, Flushes}
+use Rattle.disk.specs.Calls.{is_fault, Answer, Fate, wrong_length, wrong_place, failed, served, by_entry, answer, leaves, shows, spent, Reads, WritesBy, Flushes}
 use Rattle.retry.specs.Retried.{retried, retry_medium, tripled}
 use Rattle.disk.proofs.Media.{with_plan}
 

@@ -2,7 +2,7 @@ use Rattle.std.proofs.Common.{◌≡◌, cond, Decides, sym, ap, ◌∙◌, subs
 use mathlib.Core.Option.{some, none}
 use Rattle.std.proofs.lemmas.Slice.Eq.{slice_eq-Decides}
 use Rattle.std.proofs.lemmas.Bool.{and_right, and_from}
-use Rattle.head.specs.Head.{encode, fits}
+use Rattle.head.specs.Head.{fits}
 use Rattle.head.specs.Codes.{head_of}
 use Rattle.head.proofs.Bytes.{decoded, decode_none, decode_by, decode_unfit}
 use Rattle.head.proofs.codec.decode.Goals.{then-block-ne-BLOCK-via-then-block-ne-BLOCK, then-block-ne-BLOCK-via-else-block-ne-BLOCK+then-block-gt-MOST_PLACES}

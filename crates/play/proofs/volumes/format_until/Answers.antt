@@ -1,5 +1,5 @@
-use Rattle.std.proofs.Common.{◌≡◌, ◌<◌, ◌≤◌, true, false, length, is_err, sym, refl, ap, ◌∙◌, subst}
-use Rattle.disk.specs.Medium.{Medium, join, size}
+use Rattle.std.proofs.Common.{◌≡◌, ◌<◌, ◌≤◌, true, false, length, is_err, sym, ap, ◌∙◌, subst}
+use Rattle.disk.specs.Medium.{size}
 use Rattle.head.specs.Head.{empty_head}
 use Rattle.journal_law.specs.Recovery.{home_blocks, head_write, Formatted, formatted}
 use Rattle.play.specs.Histories.{Recoverable}

@@ -1,4 +1,4 @@
-use Rattle.std.proofs.Common.{◌≡◌, ◌<◌, length, sym, ap, ◌∙◌, subst}
+use Rattle.std.proofs.Common.{◌<◌, length, sym, ap, ◌∙◌, subst}
 use Rattle.disk.specs.Medium.{Medium, join}
 use Rattle.journal_law.specs.Laws.{JustRecovered}
 use Rattle.play.specs.InJournal.{recovery_breaks, recovery_leaves, recovered_from, recovered_until}

@@ -1,4 +1,4 @@
-use Rattle.std.proofs.Common.{◌≡◌, ◌+◌, ◌<◌, ◌≤◌, true, List, ◌++◌, map, length, sym, ap, ◌∙◌, subst, subst₂, arith}
+use Rattle.std.proofs.Common.{◌≡◌, ◌<◌, ◌≤◌, true, List, ◌++◌, map, length, sym, ap, ◌∙◌, subst, subst₂, arith}
 use mathlib.Core.Option.{some}
 use Rattle.std.proofs.lemmas.List.{length-map, length-take-le}
 use Rattle.disk.specs.Medium.{Write}

@@ -1,4 +1,4 @@
-use Rattle.std.proofs.Common.{◌≡◌, Bool, cond, set, replicate, sym, refl, ap, ◌∙◌}
+use Rattle.std.proofs.Common.{Bool, cond, set, replicate, sym, refl, ap, ◌∙◌}
 use Rattle.table.specs.declared.held.Version.{Version}
 use Rattle.table.specs.declared.held.Row.TheVariants.{Held}
 use Rattle.table.specs.Versions.{begun}
