@@ -147,6 +147,26 @@ def turn_edit(text, renames):
 
 ALIASES = {}
 
+# A word of the library under the name of another is refused: it goes by its own name.
+OWN_WORDS = [("AllByRecursion", "All")]
+
+
+def by_own_word(path, text):
+    for word, alias in OWN_WORDS:
+        if f"{word} as {alias}" not in text:
+            continue
+        text = text.replace(f"{word} as {alias}", word)
+        spans = ghost_spans(text) if path.endswith(".rt") else None
+        out = []
+        at = 0
+        for line in text.split("\n"):
+            code = line if spans is not None else code_of(line)
+            swap = lambda m: word if m[0] == alias and (spans is None or any(a <= at + m.start() < b for a, b in spans)) else m[0]
+            out.append(TOKEN.sub(swap, code) + line[len(code):])
+            at += len(line) + 1
+        text = "\n".join(out)
+    return text
+
 
 def aliases(text):
     """Names by which a file calls modules of this repository's specs and proofs, but for those that Rattle makes."""
@@ -194,6 +214,11 @@ def main():
     for path in list(files(".rt")):
         text = read(path)
         new = turn_rt(text, renames)
+        if new != text:
+            open(path, "w", encoding="utf-8").write(new)
+    for path in list(files(".antt", ".rt")):
+        text = read(path)
+        new = by_own_word(path, text)
         if new != text:
             open(path, "w", encoding="utf-8").write(new)
     for path in list(files(".edit")):

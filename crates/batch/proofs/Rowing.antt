@@ -1,7 +1,7 @@
 -- The first row that passes, and what it says of the lists of the model.
 use Rattle.std.proofs.Common.{◌≡◌, ℕ, zero, suc, ◌+◌, ◌-◌, ◌<◌, ◌≤◌, Bool, true, false, cond, eqb, List, [], ◌∷◌, ◌++◌, map, length, get_or, take, drop, set, is_some, Some, None, Option, sym, refl, ap, ◌∙◌, subst, ⊎_elim, add-one, arith}
 use mathlib.Core.Option.{some, none}
-use Rattle.std.specs.List.{AllByRecursion as All}
+use Rattle.std.specs.List.{AllByRecursion}
 use Rattle.std.proofs.lemmas.List.{append-nil, map-append, at_drop_more, at_drop_all, length-append, get_or-append_right, ext_get_or}
 use Rattle.std.proofs.lemmas.Bool.{cases_lt}
 use Rattle.disk.specs.Medium.{Write}
@@ -30,7 +30,7 @@ pub record Row (p : Entry → Bool) (xs : List Entry) (i : ℕ) : Type 0 where
   pub is : xs ≡ pre ++ here ∷ post
   pub at : length pre ≡ i
   pub passes : p here ≡ true
-  pub before : All (λ x. p x ≡ false) pre
+  pub before : AllByRecursion (λ x. p x ≡ false) pre
 
 abbrev index : Option ℕ → ℕ
 index None = 0
@@ -59,11 +59,11 @@ first_row k p (x ∷ xs) j e = go (p x) refl e (first_row (suc k) p xs j)
           },
         )
 
-first_none : (k : ℕ) (p : Entry → Bool) (xs : List Entry) → first_from k p xs ≡ None → All (λ x. p x ≡ false) xs
+first_none : (k : ℕ) (p : Entry → Bool) (xs : List Entry) → first_from k p xs ≡ None → AllByRecursion (λ x. p x ≡ false) xs
 first_none k p [] e = tt
 first_none k p (x ∷ xs) e = go (p x) refl e (first_none (suc k) p xs)
   where
-    go : (b : Bool) → p x ≡ b → cond b (Some k) (first_from (suc k) p xs) ≡ None → (first_from (suc k) p xs ≡ None → All (λ y. p y ≡ false) xs) → All (λ y. p y ≡ false) (x ∷ xs)
+    go : (b : Bool) → p x ≡ b → cond b (Some k) (first_from (suc k) p xs) ≡ None → (first_from (suc k) p xs ≡ None → AllByRecursion (λ y. p y ≡ false) xs) → AllByRecursion (λ y. p y ≡ false) (x ∷ xs)
     go true q f rec = absurd (let g : suc k ≡ 0 = ap index f in omega (arith, g))
     go false q f rec = (q, rec f)
 
@@ -82,14 +82,14 @@ module _ (place : ℕ) where
   abbrev at_place : Entry → Bool
   at_place = test (query.Place place)
 
-  cached_past : (pre : List Entry) (rest : List Write) → All (λ x. at_place x ≡ false) pre → cached place (map write_in pre ++ rest) ≡ cached place rest
+  cached_past : (pre : List Entry) (rest : List Write) → AllByRecursion (λ x. at_place x ≡ false) pre → cached place (map write_in pre ++ rest) ≡ cached place rest
   cached_past [] rest a = refl
   cached_past (x ∷ pre) rest a = ap (λ b. cond b (some x.bytes) (cached place (map write_in pre ++ rest))) a.0 ∙ cached_past pre rest a.1
 
   pub cached_none : (xs : List Entry) → first_from 0 at_place xs ≡ None → cached place (map write_in xs) ≡ none
   cached_none xs e = ap (cached place) (sym (append-nil (map write_in xs))) ∙ cached_past xs [] (first_none 0 at_place xs e)
 
-  collect_past : (w : Write) (pre : List Entry) (rest : List Write) → w.place ≡ place → All (λ x. at_place x ≡ false) pre → collect w (map write_in pre ++ rest) ≡ map write_in pre ++ collect w rest
+  collect_past : (w : Write) (pre : List Entry) (rest : List Write) → w.place ≡ place → AllByRecursion (λ x. at_place x ≡ false) pre → collect w (map write_in pre ++ rest) ≡ map write_in pre ++ collect w rest
   collect_past w [] rest q a = refl
   collect_past w (x ∷ pre) rest q a =
       ap (λ b. cond b (w ∷ (map write_in pre ++ rest)) (write_in x ∷ collect w (map write_in pre ++ rest))) (ap (eqb x.place) q ∙ a.0)
@@ -141,11 +141,11 @@ module _ (mark : ℕ) where
   abbrev at_mark : Entry → Bool
   at_mark = test (query.Mark mark)
 
-  find_past : (pre : List Entry) (rest : List Begun) → All (λ x. at_mark x ≡ false) pre → find mark (map begun_in pre ++ rest) ≡ find mark rest
+  find_past : (pre : List Entry) (rest : List Begun) → AllByRecursion (λ x. at_mark x ≡ false) pre → find mark (map begun_in pre ++ rest) ≡ find mark rest
   find_past [] rest a = refl
   find_past (x ∷ pre) rest a = ap (λ b. cond b (some (begun_in x)) (find mark (map begun_in pre ++ rest))) a.0 ∙ find_past pre rest a.1
 
-  without_past : (pre : List Entry) (rest : List Begun) → All (λ x. at_mark x ≡ false) pre → without mark (map begun_in pre ++ rest) ≡ map begun_in pre ++ without mark rest
+  without_past : (pre : List Entry) (rest : List Begun) → AllByRecursion (λ x. at_mark x ≡ false) pre → without mark (map begun_in pre ++ rest) ≡ map begun_in pre ++ without mark rest
   without_past [] rest a = refl
   without_past (x ∷ pre) rest a =
       ap (λ b. cond b (map begun_in pre ++ rest) (begun_in x ∷ without mark (map begun_in pre ++ rest))) a.0 ∙ ap (λ l. begun_in x ∷ l) (without_past pre rest a.1)

@@ -1,6 +1,6 @@
 -- What a disk means: firm blocks, loose writes and a plan of faults.
 use Rattle.std.specs.Prelude.{◌≡◌, ℕ, ◌/◌, ◌%◌, ◌<◌, ◌≤◌, cond, List, [], ◌∷◌, ◌++◌, length, ◌==◌, nat_lt, slice_set}
-use Rattle.std.specs.List.{AllByRecursion as All}
+use Rattle.std.specs.List.{AllByRecursion}
 
 -- a block is its bytes
 abbrev pub Block : Type 0
@@ -100,9 +100,9 @@ Fitting n w = (w.place < n) × IsBlock w.bytes
 pub record Sound (m : Medium) : Type 0 where
   pub some : 1 ≤ size m
   pub few : size m ≤ 4096
-  pub blocks : All IsBlock m.firm
+  pub blocks : AllByRecursion IsBlock m.firm
   pub held : length m.loose ≤ 8
-  pub fitting : All (Fitting (size m)) m.loose
+  pub fitting : AllByRecursion (Fitting (size m)) m.loose
 
 -- two disks that show the same blocks
 pub record Alike (m n : Medium) : Type 0 where

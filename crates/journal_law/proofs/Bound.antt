@@ -9,7 +9,7 @@ use Rattle.journal_law.specs.Device.{Device, bads}
 use Rattle.journal_law.specs.Cache.{Begun, Phase, slot, slots_flush, head, head_flush, home, homes_flush, empty, empty_flush, Group, Live, Call, begin, finish, withdraw, read, seal, step, restart, begin_refusal, begun, find, finished, withdrawn, cached, group_writes, read_shown, read_disk, read_refusal, seal_refusal, sealed, DiskCall, write, flush, phase_call, next_phase, in_phase, good_medium, step_met, stepped, outcome_in}
 use Rattle.journal_law.specs.Ledger.{Sealing, UnderWay, Ledger}
 use Rattle.journal_law.specs.Laws.{calls_left, step_count, IsRestart}
-use Rattle.std.specs.List.{AllByRecursion as All}
+use Rattle.std.specs.List.{AllByRecursion}
 use Rattle.journal_law.proofs.Media.{wrote_plan}
 use Rattle.journal_law.proofs.Tables.{some_same, none_some}
 use Rattle.journal_law.proofs.Invariant.{State, Invariant}
@@ -106,7 +106,7 @@ module _ (n : ℕ) (opening : List Block) (device : Device) (v : Live) (l : Ledg
       go (some g) none e a = absurd a
       go (some g) (some u) e (is_last, number, blocks, phase, names, a) =
           subst (λ f. DueIn k bound (suc done) (step_met device v g call f).live)
-          (sym (phase_fate n g v.medium g.phase names (subst (λ x. All (λ (w : Write). length w.bytes ≡ 512) (group_writes x)) e h.grouped) sized turn))
+          (sym (phase_fate n g v.medium g.phase names (subst (λ x. AllByRecursion (λ (w : Write). length w.bytes ≡ 512) (group_writes x)) e h.grouped) sized turn))
           (at_entry (due v.medium.plan) refl)
         where
           call : DiskCall

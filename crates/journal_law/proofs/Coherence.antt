@@ -9,7 +9,7 @@ use Rattle.journal_law.specs.Device.{Device}
 use Rattle.head.specs.Head.{none_twice}
 use Rattle.journal_law.specs.Cache.{Phase, slot, slots_flush, head, head_flush, home, homes_flush, empty, empty_flush, Group, Live, read, Answer, accepted, shown, refused, place_of, decided, cached, group_writes, read_shown, read_disk, outcome_in}
 use Rattle.journal_law.specs.Ledger.{Sealing, UnderWay, Ledger, laid, write_of, by_mark}
-use Rattle.std.specs.List.{AllByRecursion as All}
+use Rattle.std.specs.List.{AllByRecursion}
 use Rattle.journal_law.proofs.Media.{Keeps, kept_current, over, get_d_lay, length_lay}
 use Rattle.journal_law.proofs.Forms.{head_of, Idle, Logged, Replayed, Cleared}
 use Rattle.head.proofs.RoundTrip.{decode_sound}
@@ -17,7 +17,7 @@ use Rattle.journal_law.proofs.Start.{fits_parts}
 use Rattle.journal_law.proofs.Tables.{some_same, none_some, fresh_places, once_parts}
 use Rattle.journal_law.proofs.Invariant.{content, InPhase, State, last_sealed, Invariant}
 
-over_fresh : (ws : List Write) (p : ℕ) (x : Block) → All (λ (w : Write). w.place ≡ p → ⊥) ws → over ws p x ≡ x
+over_fresh : (ws : List Write) (p : ℕ) (x : Block) → AllByRecursion (λ (w : Write). w.place ≡ p → ⊥) ws → over ws p x ≡ x
 over_fresh [] p x a = refl
 over_fresh (w ∷ ws) p x a = ap (λ b. over ws p (cond b w.bytes x)) (ne_eqb w.place p a.0) ∙ over_fresh ws p x a.1
 
@@ -29,7 +29,7 @@ cached_some (w ∷ ws) p b x once e = go (eqb w.place p) refl e (cached_some ws 
     go : (t : Bool) → eqb w.place p ≡ t → cond t (some w.bytes) (cached p ws) ≡ some b → (cached p ws ≡ some b → over ws p x ≡ b) →
         over ws p (cond t w.bytes x) ≡ b
     go true q f r = over_fresh ws p w.bytes
-        (subst (λ z. All (λ (y : Write). y.place ≡ z → ⊥) ws) (eqb-true w.place p q) (fresh_places w.place ws (once_parts w.place (map place_of ws) once).0))
+        (subst (λ z. AllByRecursion (λ (y : Write). y.place ≡ z → ⊥) ws) (eqb-true w.place p q) (fresh_places w.place ws (once_parts w.place (map place_of ws) once).0))
         ∙ some_same w.bytes b f
     go false q f r = r f
 

@@ -8,7 +8,7 @@ use Rattle.disk.specs.Medium.{Block, Write, lay}
 use Rattle.head.specs.Head.{holds}
 use Rattle.journal_law.specs.Cache.{Begun, place_of, begun_place, different, find, without, collect}
 use Rattle.journal_law.specs.Ledger.{laid}
-use Rattle.std.specs.List.{AllByRecursion as All}
+use Rattle.std.specs.List.{AllByRecursion}
 use Rattle.journal_law.proofs.Tables.{Before, Elsewhere, laid_more, holds_append, lay_collect, holds_collect, once_collect, below_collect, different_mono, find_in, all_without, apart_push, apart_without, apart_found, holds_found, holds_without, fresh_open}
 use Rattle.journal_law.proofs.Invariant.{Table}
 
@@ -110,7 +110,7 @@ module _ (n : ℕ) (open_writes finished : List Begun) (collected : List Write) 
         (All-weaker (λ (o : Begun). o.mark ≤ counter) (λ (o : Begun). o.mark ≤ suc counter) (λ o h. omega arith) open_writes t.open_marks) (omega arith);
     done_marks = All-weaker (λ (o : Begun). o.mark ≤ counter) (λ (o : Begun). o.mark ≤ suc counter) (λ o h. omega arith) finished t.done_marks;
     apart = apart_push open_writes new t.apart (fresh_open w.place open_writes fresh);
-    later = All-push (λ (o : Begun). All (Before o) finished) open_writes new t.later
+    later = All-push (λ (o : Begun). AllByRecursion (Before o) finished) open_writes new t.later
         (All-weaker (λ (o : Begun). o.mark ≤ counter) (Before new) (λ o h _. omega arith) finished t.done_marks);
     open_inside = All-push (λ (o : Begun). o.write.place < n) open_writes new t.open_inside l;
     inside = t.inside;
@@ -126,7 +126,7 @@ module _ (n : ℕ) (open_writes finished : List Begun) (collected : List Write) 
     open_marks = all_without (λ (o : Begun). o.mark ≤ counter) ticket open_writes t.open_marks;
     done_marks = t.done_marks;
     apart = apart_without ticket open_writes t.apart;
-    later = all_without (λ (o : Begun). All (Before o) finished) ticket open_writes t.later;
+    later = all_without (λ (o : Begun). AllByRecursion (Before o) finished) ticket open_writes t.later;
     open_inside = all_without (λ (o : Begun). o.write.place < n) ticket open_writes t.open_inside;
     inside = t.inside;
     once = t.once;
@@ -155,14 +155,14 @@ module _ (n : ℕ) (open_writes finished : List Begun) (collected : List Write) 
       All-weaker (λ (x : Begun). x.mark ≤ counter) (λ (x : Begun). x.mark ≤ suc counter) (λ x h. omega arith) finished t.done_marks,
     );
     apart = apart_without ticket open_writes t.apart;
-    later = both (without ticket open_writes) (apart_found ticket open_writes o e t.apart) (all_without (λ (x : Begun). All (Before x) finished) ticket open_writes t.later);
+    later = both (without ticket open_writes) (apart_found ticket open_writes o e t.apart) (all_without (λ (x : Begun). AllByRecursion (Before x) finished) ticket open_writes t.later);
     open_inside = all_without (λ (x : Begun). x.write.place < n) ticket open_writes t.open_inside;
     inside = below_collect n o.write collected (find_in (λ (x : Begun). x.write.place < n) ticket open_writes o e t.open_inside) t.inside;
     once = once_collect o.write collected t.once;
     room = omega (arith, t.room, room_finish n open_writes collected ticket o e);
   }
     where
-      both : (xs : List Begun) → All (Elsewhere o) xs → All (λ (x : Begun). All (Before x) finished) xs → All (λ (x : Begun). All (Before x) (o ∷ finished)) xs
+      both : (xs : List Begun) → AllByRecursion (Elsewhere o) xs → AllByRecursion (λ (x : Begun). AllByRecursion (Before x) finished) xs → AllByRecursion (λ (x : Begun). AllByRecursion (Before x) (o ∷ finished)) xs
       both [] a b = tt
       both (x ∷ xs) a b = (((λ f. absurd (a.0 (sym f))), b.0), both xs a.1 b.1)
 
@@ -172,4 +172,4 @@ module _ (n : ℕ) (open_writes finished : List Begun) (collected : List Write) 
   shown_finish opening base ticket o e r =
       lay_collect o.write collected base t.once
       ∙ ap (λ z. set z o.write.place o.write.bytes) r
-      ∙ sym (laid_more opening o finished (find_in (λ (x : Begun). All (Before x) finished) ticket open_writes o e t.later))
+      ∙ sym (laid_more opening o finished (find_in (λ (x : Begun). AllByRecursion (Before x) finished) ticket open_writes o e t.later))

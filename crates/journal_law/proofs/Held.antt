@@ -15,7 +15,7 @@ use Rattle.head.proofs.Bytes.{length_encode}
 use Rattle.journal_law.specs.Device.{Device}
 use Rattle.journal_law.specs.Cache.{Begun, Phase, slot, slots_flush, head, head_flush, home, homes_flush, empty, empty_flush, Group, Live, Call, begin, finish, withdraw, read, seal, step, restart, Answer, accepted, shown, refused, Outcome, place_of, begun_place, different, decided, begin_refusal, begun, find, without, collect, finished, withdrawn, cached, group_writes, read_shown, read_disk, read_refusal, is_some, seal_refusal, sealed, nth, group_head, phase_call, call_fate, next_phase, in_phase, step_met, stepped, group_restarted, outcome_in}
 use Rattle.journal_law.specs.Ledger.{Sealing, UnderWay, Ledger}
-use Rattle.std.specs.List.{AllByRecursion as All}
+use Rattle.std.specs.List.{AllByRecursion}
 use Rattle.journal_law.proofs.Forms.{Names}
 use Rattle.journal_law.proofs.Tables.{none_some, find_in, all_without}
 use Rattle.journal_law.proofs.Invariant.{InPhase, State, Invariant}
@@ -29,17 +29,17 @@ WholeBegun o = Whole o.write
 
 pub record Held (n : ℕ) (v : Live) : Type 0 where
   pub homed : v.home_count ≡ n
-  pub opens : All WholeBegun v.open_writes
-  pub batch : All Whole v.collected
-  pub grouped : All Whole (group_writes v.group)
+  pub opens : AllByRecursion WholeBegun v.open_writes
+  pub batch : AllByRecursion Whole v.collected
+  pub grouped : AllByRecursion Whole (group_writes v.group)
   pub marks : v.counter + length v.open_writes ≤ 1_000_000
   pub number : v.last < 4_294_967_296
 
-all_collect : (P : Write → Type 0) (w : Write) (xs : List Write) → P w → All P xs → All P (collect w xs)
+all_collect : (P : Write → Type 0) (w : Write) (xs : List Write) → P w → AllByRecursion P xs → AllByRecursion P (collect w xs)
 all_collect P w [] p a = (p, tt)
 all_collect P w (x ∷ xs) p a = go (eqb x.place w.place) (all_collect P w xs p a.1)
   where
-    go : (b : Bool) → All P (collect w xs) → All P (cond b (w ∷ xs) (x ∷ collect w xs))
+    go : (b : Bool) → AllByRecursion P (collect w xs) → AllByRecursion P (cond b (w ∷ xs) (x ∷ collect w xs))
     go true r = (p, a.1)
     go false r = (a.0, r)
 
@@ -113,10 +113,10 @@ module _ (n : ℕ) (device : Device) (v : Live) (h : Held n v) where
   step_held none e = h
   step_held (some g) e = by_fate (call_fate v.medium (phase_call n g g.phase))
     where
-      same : All Whole g.writes
-      same = subst (λ x. All Whole (group_writes x)) e h.grouped
+      same : AllByRecursion Whole g.writes
+      same = subst (λ x. AllByRecursion Whole (group_writes x)) e h.grouped
 
-      moved : (p : Option Phase) → All Whole (group_writes (in_phase g p))
+      moved : (p : Option Phase) → AllByRecursion Whole (group_writes (in_phase g p))
       moved none = tt
       moved (some p) = same
 
@@ -126,7 +126,7 @@ module _ (n : ℕ) (device : Device) (v : Live) (h : Held n v) where
       by_fate wrong_length = record { homed = h.homed; opens = h.opens; batch = h.batch; grouped = same; marks = h.marks; number = h.number }
       by_fate wrong_place = record { homed = h.homed; opens = h.opens; batch = h.batch; grouped = same; marks = h.marks; number = h.number }
 
-  restart_grouped : (g : Option Group) → All Whole (group_writes g) → All Whole (group_writes (group_restarted g))
+  restart_grouped : (g : Option Group) → AllByRecursion Whole (group_writes g) → AllByRecursion Whole (group_writes (group_restarted g))
   restart_grouped none a = tt
   restart_grouped (some g) a = a
 
@@ -147,7 +147,7 @@ fate_is m place n e l =
     ap (λ t. cond t (cond (ltb place (size m)) (fate_by (due m.plan)) wrong_place) wrong_length) (eq-eqb n 512 e)
     ∙ ap (λ t. cond t (fate_by (due m.plan)) wrong_place) (lt-ltb place (size m) l)
 
-nth_whole : (ws : List Write) (i : ℕ) → i < length ws → All Whole ws → length (nth ws i).bytes ≡ 512
+nth_whole : (ws : List Write) (i : ℕ) → i < length ws → AllByRecursion Whole ws → length (nth ws i).bytes ≡ 512
 nth_whole [] i l a = absurd (omega arith)
 nth_whole (w ∷ ws) zero l a = a.0
 nth_whole (w ∷ ws) (suc i) l a = nth_whole ws i (omega arith) a.1
@@ -174,7 +174,7 @@ turn_of n opening g s c firm loose homes_flush a = tt
 turn_of n opening g s c firm loose empty a = tt
 turn_of n opening g s c firm loose empty_flush a = tt
 
-pub phase_fate : (n : ℕ) (g : Group) (m : Medium) (ph : Phase) → Names n g.number g.writes → All Whole g.writes → size m ≡ n + 9 →
+pub phase_fate : (n : ℕ) (g : Group) (m : Medium) (ph : Phase) → Names n g.number g.writes → AllByRecursion Whole g.writes → size m ≡ n + 9 →
     InTurn (length g.writes) ph → call_fate m (phase_call n g ph) ≡ fate_by (due m.plan)
 phase_fate n g m (slot i) names whole sized l = fate_is m (suc n + i) (length (nth g.writes i).bytes) (nth_whole g.writes i l whole) (omega (arith, l, names.few, sized))
 phase_fate n g m (home i) names whole sized l = fate_is m (nth g.writes i).place (length (nth g.writes i).bytes) (nth_whole g.writes i l whole) (omega (arith, names.inside i l, sized))
@@ -225,7 +225,7 @@ module _ (n : ℕ) (opening : List Block) (device : Device) (v : Live) (l : Ledg
   step_seven (some g) none e a = absurd a
   step_seven (some g) (some u) e (is_last, number, blocks, phase, names, a) =
       subst (λ f. FaultOnly (step_met device v g (phase_call n g g.phase) f).answer)
-      (sym (phase_fate n g v.medium g.phase names (subst (λ x. All Whole (group_writes x)) e h.grouped) sized
+      (sym (phase_fate n g v.medium g.phase names (subst (λ x. AllByRecursion Whole (group_writes x)) e h.grouped) sized
       (turn_of n opening g u.sealing l.committed v.medium.firm v.medium.loose g.phase a)))
       (go (due v.medium.plan))
     where

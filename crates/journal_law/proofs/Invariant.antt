@@ -5,18 +5,18 @@ use Rattle.disk.specs.Medium.{Block, Write, lay, Medium}
 use Rattle.head.specs.Head.{encode, decode, empty_head, all_below, none_twice}
 use Rattle.journal_law.specs.Cache.{Begun, Phase, slot, slots_flush, head, head_flush, home, homes_flush, empty, empty_flush, Group, Live, place_of, begun_place, different}
 use Rattle.journal_law.specs.Ledger.{Sealing, UnderWay, Ledger, laid}
-use Rattle.std.specs.List.{AllByRecursion as All}
+use Rattle.std.specs.List.{AllByRecursion}
 use Rattle.journal_law.proofs.Media.{Kept, over}
 use Rattle.journal_law.proofs.Forms.{head_of, Idle, Logged, Replayed, Cleared, Names, Fixed, ToLay, SlotsWritten}
 use Rattle.journal_law.proofs.Tables.{Before, Apart}
 
 -- the table: marks, one open write to a place, and room for the places
 pub record Table (n : ℕ) (open_writes finished : List Begun) (collected : List Write) (counter : ℕ) : Type 0 where
-  pub open_marks : All (λ (o : Begun). o.mark ≤ counter) open_writes
-  pub done_marks : All (λ (o : Begun). o.mark ≤ counter) finished
+  pub open_marks : AllByRecursion (λ (o : Begun). o.mark ≤ counter) open_writes
+  pub done_marks : AllByRecursion (λ (o : Begun). o.mark ≤ counter) finished
   pub apart : Apart open_writes
-  pub later : All (λ (o : Begun). All (Before o) finished) open_writes
-  pub open_inside : All (λ (o : Begun). o.write.place < n) open_writes
+  pub later : AllByRecursion (λ (o : Begun). AllByRecursion (Before o) finished) open_writes
+  pub open_inside : AllByRecursion (λ (o : Begun). o.write.place < n) open_writes
   pub inside : all_below n (map place_of collected) ≡ true
   pub once : none_twice (map place_of collected) ≡ true
   pub room : different n (map place_of collected ++ map begun_place open_writes) ≤ 8

@@ -3,7 +3,7 @@
 use Rattle.std.proofs.Common.{◌≡◌, ℕ, ◌/◌, ◌%◌, ◌<◌, Bool, true, false, cond, eqb, ◌⊎◌, List, [], ◌∷◌, ◌++◌, length, get_or, set, sym, refl, ap, ◌∙◌, subst, inl, inr, ⊎_elim}
 use Rattle.std.proofs.lemmas.List.{length-set, get_or-set_same, get_or-set_other}
 use Rattle.std.proofs.lemmas.Bool.{cases_eq, eqb-true, eqb-false}
-use Rattle.std.specs.List.{AllByRecursion as All}
+use Rattle.std.specs.List.{AllByRecursion}
 use Rattle.std.proofs.ByRecursion.{All-push, All-weaker}
 use Rattle.disk.specs.Medium.{Effect, Block, Write, lay, Medium, current, later, flushed, join, settle, allowed, take_effect, put, standing, cut}
 
@@ -27,7 +27,7 @@ obey_set Q bs q b o h p l = ⊎_elim
     l' : p < length bs
     l' = subst (λ x. p < x) (length-set bs q b) l
 
-pub obey_lay : (Q : ℕ → Block → Type 0) (ws : List Write) (bs : List Block) → Obey Q bs → All (Allowed Q) ws → Obey Q (lay bs ws)
+pub obey_lay : (Q : ℕ → Block → Type 0) (ws : List Write) (bs : List Block) → Obey Q bs → AllByRecursion (Allowed Q) ws → Obey Q (lay bs ws)
 obey_lay Q [] bs o a = o
 obey_lay Q (w ∷ ws) bs o a = obey_lay Q ws (set bs w.place w.bytes) (obey_set Q bs w.place w.bytes o a.0) a.1
 
@@ -39,11 +39,11 @@ pub lay_push : (bs : List Block) (ws : List Write) (w : Write) → lay bs (ws ++
 lay_push bs [] w = refl
 lay_push bs (x ∷ ws) w = lay_push (set bs x.place x.bytes) ws w
 
-all_standing : (P : Write → Type 0) (ws : List Write) (choice : ℕ) → All P ws → All P (standing choice ws)
+all_standing : (P : Write → Type 0) (ws : List Write) (choice : ℕ) → AllByRecursion P ws → AllByRecursion P (standing choice ws)
 all_standing P [] choice a = tt
 all_standing P (w ∷ ws) choice a = go (eqb (choice % 2) 1) (all_standing P ws (choice / 2) a.1)
   where
-    go : (b : Bool) → All P (standing (choice / 2) ws) → All P (cond b (w ∷ standing (choice / 2) ws) (standing (choice / 2) ws))
+    go : (b : Bool) → AllByRecursion P (standing (choice / 2) ws) → AllByRecursion P (cond b (w ∷ standing (choice / 2) ws) (standing (choice / 2) ws))
     go true r = (a.0, r)
     go false r = r
 
@@ -51,7 +51,7 @@ all_standing P (w ∷ ws) choice a = go (eqb (choice % 2) 1) (all_standing P ws 
 pub record Kept (size : ℕ) (Q : ℕ → Block → Type 0) (firm : List Block) (loose : List Write) : Type 0 where
   pub size_is : length firm ≡ size
   pub firm_ok : Obey Q firm
-  pub loose_ok : All (Allowed Q) loose
+  pub loose_ok : AllByRecursion (Allowed Q) loose
 
 abbrev pub Keeps : ℕ → (ℕ → Block → Type 0) → Medium → Type 0
 Keeps size Q m = Kept size Q m.firm m.loose
@@ -93,7 +93,7 @@ pub kept_wrote : (size : ℕ) (Q : ℕ → Block → Type 0) (effect : Effect) (
     Keeps size Q (wrote effect w m)
 kept_wrote size Q effect w m k h = go (allowed effect m)
   where
-    all : All (Allowed Q) (m.loose ++ (w ∷ []))
+    all : AllByRecursion (Allowed Q) (m.loose ++ (w ∷ []))
     all = All-push (Allowed Q) m.loose w k.loose_ok h
 
     go : (e : Effect) → Keeps size Q (take_effect e m w)

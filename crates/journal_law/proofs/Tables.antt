@@ -8,10 +8,10 @@ use Rattle.disk.specs.Medium.{Block, Write, lay}
 use Rattle.head.specs.Head.{holds, all_below, none_twice}
 use Rattle.journal_law.specs.Cache.{Begun, place_of, begun_place, different, find, without, collect}
 use Rattle.journal_law.specs.Ledger.{insert_by_mark, by_mark, write_of, laid}
-use Rattle.std.specs.List.{AllByRecursion as All}
+use Rattle.std.specs.List.{AllByRecursion}
 
 -- writes that leave a place alone may be laid after a write at it
-pub lay_fresh : (ws : List Write) (bs : List Block) (q : ℕ) (b : Block) → All (λ (w : Write). w.place ≡ q → ⊥) ws →
+pub lay_fresh : (ws : List Write) (bs : List Block) (q : ℕ) (b : Block) → AllByRecursion (λ (w : Write). w.place ≡ q → ⊥) ws →
     lay (set bs q b) ws ≡ set (lay bs ws) q b
 lay_fresh [] bs q b a = refl
 lay_fresh (w ∷ ws) bs q b a =
@@ -20,17 +20,17 @@ lay_fresh (w ∷ ws) bs q b a =
 -- from the lowest begin mark on
 abbrev pub Sorted : List Begun → Type 0
 Sorted [] = Unit {0}
-Sorted (x ∷ xs) = All (λ (y : Begun). x.mark ≤ y.mark) xs × Sorted xs
+Sorted (x ∷ xs) = AllByRecursion (λ (y : Begun). x.mark ≤ y.mark) xs × Sorted xs
 
-pub all_insert : (P : Begun → Type 0) (o : Begun) (xs : List Begun) → P o → All P xs → All P (insert_by_mark o xs)
+pub all_insert : (P : Begun → Type 0) (o : Begun) (xs : List Begun) → P o → AllByRecursion P xs → AllByRecursion P (insert_by_mark o xs)
 all_insert P o [] p a = (p, tt)
 all_insert P o (x ∷ xs) p a = go (ltb x.mark o.mark) (all_insert P o xs p a.1)
   where
-    go : (b : Bool) → All P (insert_by_mark o xs) → All P (cond b (x ∷ insert_by_mark o xs) (o ∷ x ∷ xs))
+    go : (b : Bool) → AllByRecursion P (insert_by_mark o xs) → AllByRecursion P (cond b (x ∷ insert_by_mark o xs) (o ∷ x ∷ xs))
     go true r = (a.0, r)
     go false r = (p, a)
 
-pub all_by_mark : (P : Begun → Type 0) (xs : List Begun) → All P xs → All P (by_mark xs)
+pub all_by_mark : (P : Begun → Type 0) (xs : List Begun) → AllByRecursion P xs → AllByRecursion P (by_mark xs)
 all_by_mark P [] a = tt
 all_by_mark P (x ∷ xs) a = all_insert P x (by_mark xs) a.0 (all_by_mark P xs a.1)
 
@@ -52,12 +52,12 @@ sorted_by_mark (x ∷ xs) = sorted_insert x (by_mark xs) (sorted_by_mark xs)
 abbrev pub Before : Begun → Begun → Type 0
 Before o x = x.write.place ≡ o.write.place → x.mark < o.mark
 
-fresh_after : (o : Begun) (xs : List Begun) → All (λ (y : Begun). o.mark ≤ y.mark) xs → All (Before o) xs →
-    All (λ (w : Write). w.place ≡ o.write.place → ⊥) (map write_of xs)
+fresh_after : (o : Begun) (xs : List Begun) → AllByRecursion (λ (y : Begun). o.mark ≤ y.mark) xs → AllByRecursion (Before o) xs →
+    AllByRecursion (λ (w : Write). w.place ≡ o.write.place → ⊥) (map write_of xs)
 fresh_after o [] s a = tt
 fresh_after o (x ∷ xs) s a = ((λ e. absurd (omega (arith, a.0 e, s.0))), fresh_after o xs s.1 a.1)
 
-lay_insert : (o : Begun) (xs : List Begun) (bs : List Block) → Sorted xs → All (Before o) xs →
+lay_insert : (o : Begun) (xs : List Begun) (bs : List Block) → Sorted xs → AllByRecursion (Before o) xs →
     lay bs (map write_of (insert_by_mark o xs)) ≡ set (lay bs (map write_of xs)) o.write.place o.write.bytes
 lay_insert o [] bs s a = refl
 lay_insert o (x ∷ xs) bs s a = go (ltb x.mark o.mark) refl (lay_insert o xs (set bs x.write.place x.write.bytes) s.1 a.1)
@@ -73,7 +73,7 @@ lay_insert o (x ∷ xs) bs s a = go (ltb x.mark o.mark) refl (lay_insert o xs (s
         (fresh_after o (x ∷ xs) (l, All-weaker (λ (y : Begun). x.mark ≤ y.mark) (λ (y : Begun). o.mark ≤ y.mark) (λ y h. omega arith) xs s.0) a)
 
 -- one more finished write, begun after all others at its place, is laid last
-pub laid_more : (opening : List Block) (o : Begun) (xs : List Begun) → All (Before o) xs →
+pub laid_more : (opening : List Block) (o : Begun) (xs : List Begun) → AllByRecursion (Before o) xs →
     laid opening (o ∷ xs) ≡ set (laid opening xs) o.write.place o.write.bytes
 laid_more opening o xs a = lay_insert o (by_mark xs) opening (sorted_by_mark xs) (all_by_mark (Before o) xs a)
 
@@ -87,12 +87,12 @@ holds_append q (x ∷ xs) ys = go (eqb x q) (holds_append q xs ys)
     go true r = refl
     go false r = r
 
-pub fresh_places : (q : ℕ) (ws : List Write) → holds q (map place_of ws) ≡ false → All (λ (w : Write). w.place ≡ q → ⊥) ws
+pub fresh_places : (q : ℕ) (ws : List Write) → holds q (map place_of ws) ≡ false → AllByRecursion (λ (w : Write). w.place ≡ q → ⊥) ws
 fresh_places q [] h = tt
 fresh_places q (w ∷ ws) h = go (eqb w.place q) refl h (fresh_places q ws)
   where
     go : (b : Bool) → eqb w.place q ≡ b → cond b true (holds q (map place_of ws)) ≡ false →
-        (holds q (map place_of ws) ≡ false → All (λ (w : Write). w.place ≡ q → ⊥) ws) → All (λ (w : Write). w.place ≡ q → ⊥) (w ∷ ws)
+        (holds q (map place_of ws) ≡ false → AllByRecursion (λ (w : Write). w.place ≡ q → ⊥) ws) → AllByRecursion (λ (w : Write). w.place ≡ q → ⊥) (w ∷ ws)
     go true e h r = absurd (both_ways true h refl)
     go false e h r = (eqb-false w.place q e, r h)
 
@@ -116,7 +116,7 @@ lay_collect w (x ∷ xs) bs h = go (eqb x.place w.place) refl (lay_collect w xs 
     go false e r = r
     go true e r =
         let q : x.place ≡ w.place = eqb-true x.place w.place e in
-        lay_fresh xs bs w.place w.bytes (subst (λ z. All (λ (y : Write). y.place ≡ z → ⊥) xs) q (fresh_places x.place xs once.0))
+        lay_fresh xs bs w.place w.bytes (subst (λ z. AllByRecursion (λ (y : Write). y.place ≡ z → ⊥) xs) q (fresh_places x.place xs once.0))
         ∙ sym (set-set (lay bs xs) w.place x.bytes w.bytes)
         ∙ ap (λ z. set z w.place w.bytes)
         (subst (λ z. set (lay bs xs) z x.bytes ≡ lay (set bs x.place x.bytes) xs) q
@@ -229,7 +229,7 @@ some_same x y e = ap (λ o. or_else o x) e
 pub none_some : {A : Type 0} (x : A) → none ≡ some x → ⊥
 none_some x e = subst Given (sym e) tt
 
-pub find_in : (P : Begun → Type 0) (ticket : ℕ) (os : List Begun) (o : Begun) → find ticket os ≡ some o → All P os → P o
+pub find_in : (P : Begun → Type 0) (ticket : ℕ) (os : List Begun) (o : Begun) → find ticket os ≡ some o → AllByRecursion P os → P o
 find_in P ticket [] o e a = absurd (none_some o e)
 find_in P ticket (x ∷ os) o e a = go (eqb x.mark ticket) e (λ f. find_in P ticket os o f a.1)
   where
@@ -237,11 +237,11 @@ find_in P ticket (x ∷ os) o e a = go (eqb x.mark ticket) e (λ f. find_in P ti
     go true f r = subst P (some_same x o f) a.0
     go false f r = r f
 
-pub all_without : (P : Begun → Type 0) (ticket : ℕ) (os : List Begun) → All P os → All P (without ticket os)
+pub all_without : (P : Begun → Type 0) (ticket : ℕ) (os : List Begun) → AllByRecursion P os → AllByRecursion P (without ticket os)
 all_without P ticket [] a = tt
 all_without P ticket (x ∷ os) a = go (eqb x.mark ticket) (all_without P ticket os a.1)
   where
-    go : (b : Bool) → All P (without ticket os) → All P (cond b os (x ∷ without ticket os))
+    go : (b : Bool) → AllByRecursion P (without ticket os) → AllByRecursion P (cond b os (x ∷ without ticket os))
     go true r = a.1
     go false r = (a.0, r)
 
@@ -251,9 +251,9 @@ Elsewhere o x = x.write.place ≡ o.write.place → ⊥
 -- one open write to a place
 abbrev pub Apart : List Begun → Type 0
 Apart [] = Unit {0}
-Apart (o ∷ os) = All (Elsewhere o) os × Apart os
+Apart (o ∷ os) = AllByRecursion (Elsewhere o) os × Apart os
 
-pub apart_push : (os : List Begun) (o : Begun) → Apart os → All (Elsewhere o) os → Apart (os ++ o ∷ [])
+pub apart_push : (os : List Begun) (o : Begun) → Apart os → AllByRecursion (Elsewhere o) os → Apart (os ++ o ∷ [])
 apart_push [] o a fresh = (tt, tt)
 apart_push (x ∷ os) o a fresh = (All-push (Elsewhere x) os o a.0 (λ e. fresh.0 (sym e)), apart_push os o a.1 fresh.1)
 
@@ -265,13 +265,13 @@ apart_without ticket (x ∷ os) a = go (eqb x.mark ticket) (apart_without ticket
     go true r = a.1
     go false r = (all_without (Elsewhere x) ticket os a.0, r)
 
-pub apart_found : (ticket : ℕ) (os : List Begun) (o : Begun) → find ticket os ≡ some o → Apart os → All (Elsewhere o) (without ticket os)
+pub apart_found : (ticket : ℕ) (os : List Begun) (o : Begun) → find ticket os ≡ some o → Apart os → AllByRecursion (Elsewhere o) (without ticket os)
 apart_found ticket [] o e a = absurd (none_some o e)
 apart_found ticket (x ∷ os) o e a = go (eqb x.mark ticket) e (λ f. apart_found ticket os o f a.1)
   where
-    go : (b : Bool) → cond b (some x) (find ticket os) ≡ some o → (find ticket os ≡ some o → All (Elsewhere o) (without ticket os)) →
-        All (Elsewhere o) (cond b os (x ∷ without ticket os))
-    go true f r = subst (λ z. All (Elsewhere z) os) (some_same x o f) a.0
+    go : (b : Bool) → cond b (some x) (find ticket os) ≡ some o → (find ticket os ≡ some o → AllByRecursion (Elsewhere o) (without ticket os)) →
+        AllByRecursion (Elsewhere o) (cond b os (x ∷ without ticket os))
+    go true f r = subst (λ z. AllByRecursion (Elsewhere z) os) (some_same x o f) a.0
     go false f r = ((λ q. find_in (Elsewhere x) ticket os o f a.0 (sym q)), r f)
 
 pub holds_found : (ticket : ℕ) (os : List Begun) (o : Begun) → find ticket os ≡ some o → holds o.write.place (map begun_place os) ≡ true
@@ -305,11 +305,11 @@ holds_without ticket q (x ∷ os) h = go (eqb x.mark ticket) h (holds_without ti
     go true r ih = here (eqb x.write.place q) (holds q (map begun_place os)) r
     go false r ih = more (eqb x.write.place q) (holds q (map begun_place (without ticket os))) (holds q (map begun_place os)) ih r
 
-pub fresh_open : (q : ℕ) (os : List Begun) → holds q (map begun_place os) ≡ false → All (λ (x : Begun). x.write.place ≡ q → ⊥) os
+pub fresh_open : (q : ℕ) (os : List Begun) → holds q (map begun_place os) ≡ false → AllByRecursion (λ (x : Begun). x.write.place ≡ q → ⊥) os
 fresh_open q [] h = tt
 fresh_open q (x ∷ os) h = go (eqb x.write.place q) refl h (fresh_open q os)
   where
     go : (b : Bool) → eqb x.write.place q ≡ b → cond b true (holds q (map begun_place os)) ≡ false →
-        (holds q (map begun_place os) ≡ false → All (λ (x : Begun). x.write.place ≡ q → ⊥) os) → All (λ (x : Begun). x.write.place ≡ q → ⊥) (x ∷ os)
+        (holds q (map begun_place os) ≡ false → AllByRecursion (λ (x : Begun). x.write.place ≡ q → ⊥) os) → AllByRecursion (λ (x : Begun). x.write.place ≡ q → ⊥) (x ∷ os)
     go true e h r = absurd (both_ways true h refl)
     go false e h r = (eqb-false x.write.place q e, r h)

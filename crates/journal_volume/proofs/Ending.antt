@@ -1,7 +1,7 @@
 -- How a recovery ended, and what its end restores.
 use Rattle.std.proofs.Common.{◌≡◌, ℕ, zero, suc, ◌+◌, ◌-◌, ◌<◌, ◌≤◌, true, false, ◌≢◌, List, [], ◌∷◌, ◌++◌, length, replicate, Ok, Err, Result, sym, refl, ap, ◌∙◌, subst, ⊎_elim, arith}
 use mathlib.Core.Option.{Option as Maybe, some, none}
-use Rattle.std.specs.List.{AllByRecursion as All}
+use Rattle.std.specs.List.{AllByRecursion}
 use Rattle.std.proofs.lemmas.List.{length-replicate}
 use Rattle.std.proofs.lemmas.Bool.{both_ways, cases_lt}
 use Rattle.std.proofs.ByRecursion.{All-weaker}
@@ -139,7 +139,7 @@ module _ (tries : ℕ) where
       go good = stays_good n f x.stage x.medium e
       go bad = stays_bad n x.stage x.medium e
 
-all_same : (effect : Effect) (es : List Effect) → All (λ x. x ≡ effect) es → es ≡ replicate (length es) effect
+all_same : (effect : Effect) (es : List Effect) → AllByRecursion (λ x. x ≡ effect) es → es ≡ replicate (length es) effect
 all_same effect [] a = refl
 all_same effect (x ∷ es) a = λ i. a.0 i ∷ all_same effect es a.1 i
 

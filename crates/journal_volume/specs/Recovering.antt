@@ -1,7 +1,7 @@
 -- A recovery in code, against the recovery that makes one disk call at a time.
 use Rattle.std.specs.Prelude.{◌≡◌, ℕ, true, cond, List, length, replicate, Some, None, Ok, Err, Option, Result, nat_lt}
 use Rattle.std.proofs.Math.Option.{some}
-use Rattle.std.specs.List.{AllByRecursion as All}
+use Rattle.std.specs.List.{AllByRecursion}
 use Rattle.disk.specs.declared.error.DiskError.{DiskError}
 use Rattle.disk.specs.Medium.{Write, Effect, Medium}
 use Rattle.errors.specs.declared.VolumeError.{VolumeError}
@@ -21,14 +21,14 @@ OfRule {D} rule e = (d : D) × (w : Write) × (rule d w ≡ e)
 -- from where it stands, and by such effects, a recovery comes to end, to answer r and to leave m'
 pub record Ends (By : Effect → Type 0) (tries n : ℕ) (x : Recovery) (r : Result ℕ VolumeError) (m' : Medium) : Type 0 where
   pub effects : List Effect
-  pub by_rule : All By effects
+  pub by_rule : AllByRecursion By effects
   pub answers : ended tries (calls n effects x).stage ≡ some r
   pub leaves : m' ≡ (calls n effects x).medium
 
 -- from where it stands, a recovery comes to stand at y
 pub record Leads (By : Effect → Type 0) (n : ℕ) (x y : Recovery) : Type 0 where
   pub effects : List Effect
-  pub by_rule : All By effects
+  pub by_rule : AllByRecursion By effects
   pub run : calls n effects x ≡ y
 
 -- a part of the recovery: it comes to a stage, or ends by a fault

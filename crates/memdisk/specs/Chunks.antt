@@ -2,7 +2,7 @@
 use Rattle.std.specs.Prelude.{◌≡◌, ℕ, zero, suc, ◌+◌, ◌*◌, ◌<◌, ◌≤◌, not, List, [], ◌∷◌, ◌++◌, map, length, take, drop, ◌==◌, slice_index, slice_index_or, slice_set, refl}
 use Rattle.std.proofs.Common.{sym, ap, ◌∙◌, arith}
 use borrow.Rule.Slice.PartMut.{put_mid}
-use Rattle.std.specs.List.{AllByRecursion as All}
+use Rattle.std.specs.List.{AllByRecursion}
 use Rattle.std.proofs.lemmas.List.{length-take, length-drop, length-take-le, take_at, drop_at, drop-drop, drop-append-le, drop-take, drop_more, drop_all, length-append}
 use Rattle.std.proofs.lemmas.Bool.Decides.{nat_tests}
 use Rattle.std.proofs.lemmas.Slice.{take-put_mid_below}
@@ -45,7 +45,7 @@ set_blocks (suc n) (suc i) xs b h e w =
     ap (λ y. take 512 xs ∷ y) (ap (blocks_in n) moved ∙ sym (set_blocks n i (drop 512 xs) b (omega arith) e rest))
     )
 
-pub all_blocks : (n : ℕ) (xs : List ℕ) → length xs ≡ 512 * n → All IsBlock (blocks_in n xs)
+pub all_blocks : (n : ℕ) (xs : List ℕ) → length xs ≡ 512 * n → AllByRecursion IsBlock (blocks_in n xs)
 unfolding blocks_in
 all_blocks zero xs w = tt
 all_blocks (suc n) xs w = (length-take-le 512 xs (omega arith), all_blocks n (drop 512 xs) (simp length-drop (omega arith)))

@@ -1,6 +1,6 @@
 -- What holds of the medium of every disk in memory.
 use Rattle.std.proofs.Common.{ℕ, suc, List, [], ◌∷◌, vec_items, sym, subst, arith}
-use Rattle.std.specs.List.{AllByRecursion as All}
+use Rattle.std.specs.List.{AllByRecursion}
 use Rattle.std.proofs.lemmas.List.{length-map, length-take-le}
 use Rattle.disk.specs.Medium.{Sound, Fitting}
 use Rattle.memdisk.specs.Parts.{as_write, writes_of, held_in, medium_of, EachFits}
@@ -11,7 +11,7 @@ use Rattle.memdisk.specs.declared.loose.LooseWrites.{LooseWrites}
 use Rattle.memdisk.specs.declared.plan.Plan.{Plan}
 
 -- the writes of a disk each fit it
-pub all_fitting : (n : ℕ) (ws : List LooseWrite) → EachFits n ws → All (Fitting n) (writes_of ws)
+pub all_fitting : (n : ℕ) (ws : List LooseWrite) → EachFits n ws → AllByRecursion (Fitting n) (writes_of ws)
 all_fitting n [] f = tt
 all_fitting n (w ∷ ws) f = (f 0 (omega arith), all_fitting n ws (λ k h. f (suc k) (omega arith)))
 
@@ -25,7 +25,7 @@ held_sound b l p fits =
       few = omega arith;
       blocks = all_blocks b.count (vec_items b.memory) (omega (arith, b.memory.ok.0));
       held = omega (arith, length-map ws as_write, length-take-le l.count l.writes (omega arith));
-      fitting = subst (λ n. All (Fitting n) (writes_of ws)) (sym long) (all_fitting b.count ws fits);
+      fitting = subst (λ n. AllByRecursion (Fitting n) (writes_of ws)) (sym long) (all_fitting b.count ws fits);
     }
 
 -- none is

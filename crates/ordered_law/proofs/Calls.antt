@@ -19,7 +19,7 @@ use Rattle.ordered_law.proofs.Sorted.{next_bad, written, Sorted, SortedOutcome, 
 use Rattle.precedence.specs.Stamps.{Precedence, Lawful}
 use Rattle.ordered_law.specs.Promise.{write_of, Shows}
 use Rattle.ordered_law.proofs.Refusals.{unless_both, accepted}
-use Rattle.std.specs.List.{AllByRecursion as All}
+use Rattle.std.specs.List.{AllByRecursion}
 use Rattle.ordered_law.specs.Events.{Call, Begin, Finish, Withdraw, Read, Step, Restart, Count}
 use Rattle.ordered_law.specs.Cache.{any_sent, any_busy}
 use Rattle.table.specs.Versions.{live, is_open, is_waiting, is_sent, finished, some_pass, has_ticket, begun, finish_one, withdraw_one, send_one, bring_home, wait_again, free, ready, held}
@@ -208,7 +208,7 @@ module _ (precedes : Precedence) (lawful : Lawful precedes) (opening : List Bloc
   keep_flushed l c i = keep_medium l c i (flushed c.medium) (flushed_store l c i) (λ b h. h)
 
   -- Sent versions that are firm, and loose no more, are home and leave the table, at any later time.
-  keep_homed : (l : List Version) (c : Sorted) (i : Kept l c) → All (λ v. is_sent v.state ≡ true → i.store.kept v.stamp.begin ≡ true) l → All (λ d. live (bring_home d).state ≡ true) i.store.due →
+  keep_homed : (l : List Version) (c : Sorted) (i : Kept l c) → AllByRecursion (λ v. is_sent v.state ≡ true → i.store.kept v.stamp.begin ≡ true) l → AllByRecursion (λ d. live (bring_home d).state ≡ true) i.store.due →
       Kept (map bring_home l) (record { medium = c.medium; table = held (map bring_home c.table); counter = c.counter; counts = c.counts })
   keep_homed l c i firm stay = record {
     table_is = ap (λ (x : List Version). held (map bring_home x)) i.table_is ∙ held_again bring_home (λ v h. grind arith) l;

@@ -1,6 +1,6 @@
 -- What the calls do to a ledger.
 use Rattle.std.proofs.Common.{◌≡◌, ℕ, ◌+◌, ◌<◌, ◌≤◌, Bool, true, false, cond, ◌&&◌, eqb, List, [], ◌∷◌, map, sym, refl, ap, ◌∙◌, arith}
-use Rattle.std.specs.List.{AllByRecursion as All}
+use Rattle.std.specs.List.{AllByRecursion}
 use Rattle.std.proofs.lemmas.Bool.{and_parts}
 use Rattle.disk.specs.Medium.{Block, Write, lay}
 use Rattle.table.specs.declared.held.State.{State}
@@ -21,7 +21,7 @@ pub record Change (precedes : Precedence) (n : ℕ) (g : Version → Version) : 
   pub precedes_same : (u v : Version) → Sound n u → Sound n v → finished v.state ≡ true → precedes (g u).stamp (g v).stamp ≡ precedes u.stamp v.stamp
   pub orders : (u v : Version) → Before u v → Before (g u) (g v)
 
-module _ (precedes : Precedence) (n : ℕ) (g : Version → Version) (ch : Change precedes n g) (l : List Version) (sound : All (Sound n) l) where
+module _ (precedes : Precedence) (n : ℕ) (g : Version → Version) (ch : Change precedes n g) (l : List Version) (sound : AllByRecursion (Sound n) l) where
   pub released_change : (v : Version) → Sound n v → Released precedes l v → Released precedes (map g l) (g v)
   released_change v s r = record {
     done = ch.finishes v r.done;
@@ -31,12 +31,12 @@ module _ (precedes : Precedence) (n : ℕ) (g : Version → Version) (ch : Chang
   }
 
   -- what is released for some reason that lasts
-  free_change : (P Q : Version → Type 0) → ((v : Version) → Q (g v) → P v) → All (λ v. P v → Released precedes l v) l → All (λ v. Q v → Released precedes (map g l) v) (map g l)
+  free_change : (P Q : Version → Type 0) → ((v : Version) → Q (g v) → P v) → AllByRecursion (λ v. P v → Released precedes l v) l → AllByRecursion (λ v. Q v → Released precedes (map g l) v) (map g l)
   free_change P Q back a = all_map (λ u. Sound n u × (P u → Released precedes l u)) _ g (λ v h q. released_change v h.0 (h.1 (back v q))) l
       (all_both (Sound n) _ _ (λ u s r. (s, r)) l sound a)
 
   pub book_change : (n' : ℕ) → ((v : Version) → Sound n v → Sound n' (g v)) → Pairs Before l →
-      All (λ v. is_sent (g v).state ≡ true → Released precedes l v) l → Book precedes n' (map g l)
+      AllByRecursion (λ v. is_sent (g v).state ≡ true → Released precedes l v) l → Book precedes n' (map g l)
   book_change n' snd order free = record {
     sound = all_map (Sound n) (Sound n') g snd l sound;
     order = pairs_map Before g ch.orders l order;
@@ -44,7 +44,7 @@ module _ (precedes : Precedence) (n : ℕ) (g : Version → Version) (ch : Chang
   }
 
   pub firm_change : (opening : List Block) (n' : ℕ) (kept : ℕ → Bool) (firm : List Block) → n ≤ n' → Firm precedes opening n l kept firm →
-      All (λ v. (g v).state ≡ Home → kept v.stamp.begin ≡ true) l → Firm precedes opening n' (map g l) kept firm
+      AllByRecursion (λ v. (g v).state ≡ Home → kept v.stamp.begin ≡ true) l → Firm precedes opening n' (map g l) kept firm
   firm_change opening n' kept firm le f home = record {
     below = λ b e. let h = f.below b e in omega arith;
     firm_is = f.firm_is ∙ ap (lay opening) (sym (kept_map g ch.begins ch.writes kept l));
@@ -60,13 +60,13 @@ module _ (precedes : Precedence) (n : ℕ) (g : Version → Version) (ch : Chang
   map_writes [] = refl
   map_writes (d ∷ ds) = cc (ch.writes d, map_writes ds)
 
-  pub due_change : (ds : List Version) → Due precedes l ds → All (λ d. live (g d).state ≡ true) ds → Due precedes (map g l) (map g ds)
+  pub due_change : (ds : List Version) → Due precedes l ds → AllByRecursion (λ d. live (g d).state ≡ true) ds → Due precedes (map g l) (map g ds)
   due_change ds a on = all_map (λ d. (In d l × (live d.state ≡ true) × Released precedes l d) × (live (g d).state ≡ true)) _ g
       (λ d h. (in_map g d l h.0.0, h.1, released_change d (all_in (Sound n) d l h.0.0 sound) h.0.2)) ds (all_both _ _ _ (λ d x y. (x, y)) ds a on)
 
   abbrev pub stored_change :
       (opening : List Block) (n' : ℕ) (firm : List Block) (loose : List Write) → n ≤ n' → (st : Stored precedes opening n l firm loose) →
-      All (λ v. (g v).state ≡ Home → st.kept v.stamp.begin ≡ true) l → All (λ d. live (g d).state ≡ true) st.due → Stored precedes opening n' (map g l) firm loose
+      AllByRecursion (λ v. (g v).state ≡ Home → st.kept v.stamp.begin ≡ true) l → AllByRecursion (λ d. live (g d).state ≡ true) st.due → Stored precedes opening n' (map g l) firm loose
   stored_change opening n' firm loose le st home on = record {
     kept = st.kept;
     due = map g st.due;
@@ -76,8 +76,8 @@ module _ (precedes : Precedence) (n : ℕ) (g : Version → Version) (ch : Chang
   }
 
   pub sent_change :
-      (kept : ℕ → Bool) (due : List Version) → All (λ v. is_sent (g v).state ≡ true → plus kept due v.stamp.begin ≡ true) l →
-      All (λ v. is_sent v.state ≡ true → plus kept (map g due) v.stamp.begin ≡ true) (map g l)
+      (kept : ℕ → Bool) (due : List Version) → AllByRecursion (λ v. is_sent (g v).state ≡ true → plus kept due v.stamp.begin ≡ true) l →
+      AllByRecursion (λ v. is_sent v.state ≡ true → plus kept (map g due) v.stamp.begin ≡ true) (map g l)
   sent_change kept due a = all_map _ _ g (λ v h e. map_due kept due (g v).stamp.begin ∙ ap (plus kept due) (ch.begins v) ∙ h e) l a
 
 -- ---- the five changes

@@ -1,7 +1,7 @@
 -- The cache's counts are the ledger's.
 use Rattle.std.proofs.Common.{◌≡◌, ℕ, ◌+◌, Bool, true, false, cond, not, ◌||◌, eqb, ltb, ◌⊎◌, List, [], ◌∷◌, ◌++◌, map, length, filter, sym, refl, ap, ◌∙◌, subst, inl, inr, arith}
 use mathlib.Core.Option.{Option, none, some}
-use Rattle.std.specs.List.{AllByRecursion as All}
+use Rattle.std.specs.List.{AllByRecursion}
 use Rattle.std.proofs.lemmas.List.{length-map, length_push}
 use Rattle.std.proofs.lemmas.Bool.{cond_both, both_ways, and_parts, eqb-true, or_left, or_right, or_cases}
 use Rattle.std.proofs.lemmas.Bool.Decides.{nat_tests}
@@ -80,7 +80,7 @@ some_held p (v ∷ l) e = go (live v.state) e (some_held p l)
     go false e ih = or_right (p v) (some_pass p l) (ih e)
 
 -- a ticket is that of one write
-later_none : (t : ℕ) (v : Version) → has_ticket t v ≡ true → (l : List Version) → All (Before v) l → length (filter (has_ticket t) l) ≡ 0
+later_none : (t : ℕ) (v : Version) → has_ticket t v ≡ true → (l : List Version) → AllByRecursion (Before v) l → length (filter (has_ticket t) l) ≡ 0
 later_none t v h [] a = refl
 later_none t v h (u ∷ l) a =
     let e : has_ticket t u ≡ false = other in rw e (later_none t v h l a.1)

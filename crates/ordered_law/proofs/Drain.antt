@@ -4,7 +4,7 @@ use mathlib.Core.Option.{Option, none, some}
 use Rattle.disk.specs.declared.error.Kind.TheVariants as kind
 use Rattle.errors.specs.declared.CacheError.{CacheError}
 use Rattle.errors.specs.declared.CacheCall.TheVariants as during
-use Rattle.std.specs.List.{AllByRecursion as All}
+use Rattle.std.specs.List.{AllByRecursion}
 use Rattle.std.proofs.lemmas.Bool.{both_ways, and_parts, and_from, or_cases, or_parts, or_from, not_from_false, eq-eqb, cond_both, cond-true}
 use Rattle.std.proofs.ByRecursion.{all_kept_by, kept_by_passes}
 use Rattle.disk.specs.Medium.{Block, Entry, good, bad, Medium, Effect, join, settle, allowed, take_effect, later, current}
@@ -39,7 +39,7 @@ abbrev busy : Version → Bool
 busy v = is_waiting v.state || is_sent v.state
 
 abbrev NoneOpen : List Version → Type 0
-NoneOpen l = All (λ v. v.state ≢ Open) l
+NoneOpen l = AllByRecursion (λ v. v.state ≢ Open) l
 
 load_bound : (l : List Version) → load l ≤ 2 * unhomed l
 load_bound [] = omega arith
@@ -71,11 +71,11 @@ some_in p (v ∷ l) e = go (or_cases (p v) (some_pass p l) e) (some_in p l)
     go (inl q) ih = (v, here, q)
     go (inr q) ih = let r = ih q in (r.0, there r.1, r.2)
 
-all_none : (p : Version → Bool) (l : List Version) → some_pass p l ≡ false → All (λ v. p v ≡ false) l
+all_none : (p : Version → Bool) (l : List Version) → some_pass p l ≡ false → AllByRecursion (λ v. p v ≡ false) l
 all_none p [] e = tt
 all_none p (v ∷ l) e = let r = or_parts (p v) (some_pass p l) e in (r.0, all_none p l r.1)
 
-none_some : (p : Version → Bool) (l : List Version) → All (λ v. p v ≡ false) l → some_pass p l ≡ false
+none_some : (p : Version → Bool) (l : List Version) → AllByRecursion (λ v. p v ≡ false) l → some_pass p l ≡ false
 none_some p [] a = refl
 none_some p (v ∷ l) a = or_from (p v) (some_pass p l) a.0 (none_some p l a.1)
 
@@ -99,11 +99,11 @@ idle_load l e = go l (none_pass (λ v. live v.state) busy l e)
     none : (s : State) → (live s ≡ true → (is_waiting s || is_sent s) ≡ false) → weight s ≡ 0
     none s h = grind arith
 
-    go : (l : List Version) → All (λ v. live v.state ≡ true → busy v ≡ false) l → load l ≡ 0
+    go : (l : List Version) → AllByRecursion (λ v. live v.state ≡ true → busy v ≡ false) l → load l ≡ 0
     go [] a = refl
     go (v ∷ l) a = omega (arith, none v.state a.0, go l a.1)
 
-all_home : (l : List Version) → load l ≡ 0 → All (λ v. finished v.state ≡ true → v.state ≡ Home) l
+all_home : (l : List Version) → load l ≡ 0 → AllByRecursion (λ v. finished v.state ≡ true → v.state ≡ Home) l
 all_home [] e = tt
 all_home (v ∷ l) e = (home v.state (omega arith), all_home l (omega arith))
   where
@@ -112,7 +112,7 @@ all_home (v ∷ l) e = (home v.state (omega arith), all_home l (omega arith))
 
 -- ---- a busy cache with none open is never blocked
 
-not_blocked : (precedes : Precedence) → Lawful precedes → (n : ℕ) (table : List Version) → Pairs Before table → All (Sound n) table → All (λ v. is_waiting v.state ≡ true) table →
+not_blocked : (precedes : Precedence) → Lawful precedes → (n : ℕ) (table : List Version) → Pairs Before table → AllByRecursion (Sound n) table → AllByRecursion (λ v. is_waiting v.state ≡ true) table →
     some_pass busy table ≡ true → chosen precedes table ≡ none → ⊥
 not_blocked precedes lawful n [] p s w b e = both_ways false refl b
 not_blocked precedes lawful n (x ∷ table) p s w b e = let r : ready precedes (x ∷ table) x ≡ true = and_from _ _ w.0 (not_from_false _ unpreceded) in
@@ -195,7 +195,7 @@ module _ (precedes : Precedence) (lawful : Lawful precedes) where
           (λ s. absurd (not_blocked precedes lawful c.counter (held l) (pairs_kept Before (λ v. live v.state) l i.book.order) (all_kept_by (λ v. live v.state) (Sound c.counter) l i.book.sound)
           (waits (ap any_sent (sym i.table_is) ∙ s)) (ap any_busy (sym i.table_is) ∙ b) (ap (chosen precedes) (sym i.table_is) ∙ e)))
         where
-          waits : any_sent (held l) ≡ false → All (λ v. is_waiting v.state ≡ true) (held l)
+          waits : any_sent (held l) ≡ false → AllByRecursion (λ v. is_waiting v.state ≡ true) (held l)
           waits s = all_both (λ v. live v.state ≡ true) (λ v. (v.state ≢ Open) × (is_sent v.state ≡ false)) _ (λ v a h. waiting v.state a h.0 h.1) (held l)
               (kept_by_passes (λ v. live v.state) l)
               (all_both _ _ _ (λ v a h. (a, h)) (held l) (all_kept_by (λ v. live v.state) (λ v. v.state ≢ Open) l shut) (all_none (λ v. is_sent v.state) (held l) s))
@@ -245,9 +245,9 @@ replay_append precedes (x ∷ xs) ys l c = replay_append precedes xs ys _ _
 
 -- With w finished writes not home, none open and b bad entries left in the plan, 2 * w + b steps in a row bring all home.
 pub drains : (precedes : Precedence) → Lawful precedes → (m : Medium) (asked : List Asked) (devices : List Device) →
-    All (λ v. v.state ≢ Open) (ledger_of precedes m asked) →
+    AllByRecursion (λ v. v.state ≢ Open) (ledger_of precedes m asked) →
     length devices ≡ 2 * unhomed (ledger_of precedes m asked) + bads (after precedes (sorted_opened m) asked).medium.plan →
-    All (λ v. finished v.state ≡ true → v.state ≡ Home) (ledger_of precedes m (asked ++ steps devices))
+    AllByRecursion (λ v. finished v.state ≡ true → v.state ≡ Home) (ledger_of precedes m (asked ++ steps devices))
 drains precedes lawful m asked choices shut e =
     rw (replay_append precedes asked (steps choices) [] (sorted_opened m))
     (all_home _ (drain precedes lawful (current m) choices (ledger_of precedes m asked) (after precedes (sorted_opened m) asked)

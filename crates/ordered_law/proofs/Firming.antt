@@ -1,6 +1,6 @@
 -- Loose writes made firm, all of them or those that a cut leaves.
 use Rattle.std.proofs.Common.{◌≡◌, ℕ, ◌<◌, ◌≤◌, Bool, true, false, eqb, ◌≢◌, ◌⊎◌, List, [], ◌∷◌, map, sym, refl, ap, ◌∙◌, subst, inl, inr, arith}
-use Rattle.std.specs.List.{AllByRecursion as All}
+use Rattle.std.specs.List.{AllByRecursion}
 use Rattle.std.proofs.lemmas.Bool.{or_cases, or_left, eqb-true, both_ways}
 use Rattle.std.proofs.ByRecursion.{All-weaker}
 use Rattle.disk.specs.Medium.{Block, Write, lay, standing}
@@ -14,7 +14,7 @@ use Rattle.ordered_law.specs.Promise.{write_of, kept_writes, Shows}
 use Rattle.table.specs.Versions.{live, finished}
 
 abbrev pub Free : Precedence → List Version → (ℕ → Bool) → Type 0
-Free precedes l kept = All (λ v. kept v.stamp.begin ≡ true → Released precedes l v) l
+Free precedes l kept = AllByRecursion (λ v. kept v.stamp.begin ≡ true → Released precedes l v) l
 
 module _ (precedes : Precedence) (lawful : Lawful precedes) (n : ℕ) (l : List Version) (book : Book precedes n l) where
   -- a released write is never a later one of the place of a finished write in the table
@@ -46,7 +46,7 @@ module _ (precedes : Precedence) (lawful : Lawful precedes) (n : ℕ) (l : List 
       ap (λ x. lay x (map write_of ds)) (lay_in d opening kept l a.0.0 book.order clear)
       ∙ lay_all opening ds a.1 (plus_one kept d.stamp.begin) (free_one kept d a.0.0 a.0.2 fr)
     where
-      clear : All (λ f. d.stamp.begin < f.stamp.begin → kept f.stamp.begin ≡ true → f.stamp.place ≢ d.stamp.place) l
+      clear : AllByRecursion (λ f. d.stamp.begin < f.stamp.begin → kept f.stamp.begin ≡ true → f.stamp.place ≢ d.stamp.place) l
       clear = all_of _ l (λ f j lt k. no_later d f a.0.0 a.0.1 a.0.2.done j (all_in (λ v. kept v.stamp.begin ≡ true → Released precedes l v) f l j fr k) lt)
 
   pub plus_in : (ds : List Version) (kept : ℕ → Bool) (b : ℕ) → kept b ≡ true → plus kept ds b ≡ true

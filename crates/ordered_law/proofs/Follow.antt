@@ -2,7 +2,7 @@
 use Rattle.std.proofs.Common.{◌≡◌, ℕ, ◌+◌, ◌<◌, ◌≤◌, Bool, true, false, cond, not, ◌&&◌, ◌||◌, eqb, ltb, ◌≢◌, List, [], ◌∷◌, map, length, get_or, Some, None, filter, Option, sym, refl, ap, ◌∙◌, subst, ap₂, arith}
 use mathlib.Core.Option as option
 use mathlib.Core.Path.{fun_ext}
-use Rattle.std.specs.List.{AllByRecursion as All}
+use Rattle.std.specs.List.{AllByRecursion}
 use Rattle.std.proofs.lemmas.List.{length-map}
 use Rattle.std.proofs.lemmas.Bool.{eqb-true, not-false, ltb-true, lt-ltb}
 use Rattle.std.proofs.lemmas.Bool.Decides.{nat_tests}
@@ -42,7 +42,7 @@ model_of c = record { medium = c.medium; table = in_order (in_rows c.rows); coun
 
 pub record Fit (c : Cache) : Type 0 where
   pub full : length c.rows ≡ 32
-  pub marks : All (λ v. v.stamp.begin ≤ c.counter) (in_rows c.rows)
+  pub marks : AllByRecursion (λ v. v.stamp.begin ≤ c.counter) (in_rows c.rows)
   pub distinct : Distinct (in_rows c.rows)
 
 -- ---- rows
@@ -66,14 +66,14 @@ in_leave (Held v ∷ rows) = go (live v.state) (in_leave rows)
     go true ih = ap (λ x. v ∷ x) ih
     go false ih = ih
 
-all_put : (P : Version → Type 0) (v : Version) (rows : List Row) → P v → All P (in_rows rows) → All P (in_rows (put v rows))
+all_put : (P : Version → Type 0) (v : Version) (rows : List Row) → P v → AllByRecursion P (in_rows rows) → AllByRecursion P (in_rows (put v rows))
 all_put P v [] h a = tt
 all_put P v (Vacant ∷ rows) h a = (h, a)
 all_put P v (Held u ∷ rows) h a = (a.0, all_put P v rows h a.1)
 
 -- ---- pairs
 
-pairs_put : (R : Version → Version → Type 0) (x : Version) (rows : List Row) → All (R x) (in_rows rows) → ((u v : Version) → R u v → R v u) → Pairs R (in_rows rows) → Pairs R (in_rows (put x rows))
+pairs_put : (R : Version → Version → Type 0) (x : Version) (rows : List Row) → AllByRecursion (R x) (in_rows rows) → ((u v : Version) → R u v → R v u) → Pairs R (in_rows rows) → Pairs R (in_rows (put x rows))
 pairs_put R x [] a flip r = tt
 pairs_put R x (Vacant ∷ rows) a flip r = (a, r)
 pairs_put R x (Held u ∷ rows) a flip r = (all_put (R u) x rows (flip x u a.0) r.0, pairs_put R x rows a.1 flip r.1)
@@ -120,7 +120,7 @@ module _ (c : Cache) (fit : Fit c) (bounded : Within (model_of c)) where
   changed_to : (g : Version → Version) → ((v : Version) → (g v).stamp.begin ≡ v.stamp.begin) → in_order (in_rows (change g c.rows)) ≡ map g (in_order (in_rows c.rows))
   changed_to g b = ap in_order (in_change g c.rows) ∙ in_order_map g b (in_rows c.rows)
 
-  marks_changed : (g : Version → Version) → ((v : Version) → (g v).stamp.begin ≡ v.stamp.begin) → (n : ℕ) → c.counter ≤ n → All (λ v. v.stamp.begin ≤ n) (in_rows (change g c.rows))
+  marks_changed : (g : Version → Version) → ((v : Version) → (g v).stamp.begin ≡ v.stamp.begin) → (n : ℕ) → c.counter ≤ n → AllByRecursion (λ v. v.stamp.begin ≤ n) (in_rows (change g c.rows))
   marks_changed g b n le = rw (in_change g c.rows) (all_map (λ v. v.stamp.begin ≤ c.counter) (λ v. v.stamp.begin ≤ n) g (λ v h. omega (arith, b v)) (in_rows c.rows) fit.marks)
 
   distinct_changed : (g : Version → Version) → ((v : Version) → (g v).stamp.begin ≡ v.stamp.begin) → Distinct (in_rows (change g c.rows))
@@ -188,7 +188,7 @@ module _ (c : Cache) (fit : Fit c) (bounded : Within (model_of c)) where
       x : Version
       x = begun place bytes (c.counter + 1)
 
-      above : All (λ u. x.stamp.begin ≢ u.stamp.begin) H
+      above : AllByRecursion (λ u. x.stamp.begin ≢ u.stamp.begin) H
       above = All-weaker (λ v. v.stamp.begin ≤ c.counter) (λ u. c.counter + 1 ≢ u.stamp.begin) (λ v h e. absurd (omega arith)) H fit.marks
 
       vacant : begin_refusal (length c.medium.firm) place bytes H c.counter ≡ None → some_vacant c.rows ≡ true

@@ -1,7 +1,7 @@
 -- What holds of cache, ledger and storage after every list of calls.
 use Rattle.std.proofs.Common.{◌≡◌, ℕ, ◌<◌, ◌≤◌, Bool, true, false, cond, ◌||◌, eqb, ◌≢◌, ◌⊎◌, List, [], ◌∷◌, map, set, sym, refl, ap, ◌∙◌, inl, inr, arith}
 use mathlib.Core.Bool.{or-true}
-use Rattle.std.specs.List.{AllByRecursion as All}
+use Rattle.std.specs.List.{AllByRecursion}
 use Rattle.std.proofs.lemmas.Bool.{eq-eqb}
 use Rattle.std.proofs.lemmas.List.{set-set, set_comm}
 use Rattle.std.proofs.lemmas.Bool.Decides.{nat_tests}
@@ -31,12 +31,12 @@ pub record Before (u v : Version) : Type 0 where
 -- v is finished, and nothing in the table precedes it: it may be sent, and it stays so
 pub record Released (precedes : Precedence) (l : List Version) (v : Version) : Type 0 where
   pub done : finished v.state ≡ true
-  pub unpreceded : All (λ u. live u.state ≡ true → precedes u.stamp v.stamp ≡ false) l
+  pub unpreceded : AllByRecursion (λ u. live u.state ≡ true → precedes u.stamp v.stamp ≡ false) l
 
 pub record Book (precedes : Precedence) (counter : ℕ) (l : List Version) : Type 0 where
-  pub sound : All (Sound counter) l
+  pub sound : AllByRecursion (Sound counter) l
   pub order : Pairs Before l
-  pub sent_free : All (λ v. is_sent v.state ≡ true → Released precedes l v) l
+  pub sent_free : AllByRecursion (λ v. is_sent v.state ≡ true → Released precedes l v) l
 
 -- the marks of a set, and those of further versions
 abbrev pub plus_one : (ℕ → Bool) → ℕ → ℕ → Bool
@@ -50,12 +50,12 @@ plus kept (v ∷ vs) = plus (plus_one kept v.stamp.begin) vs
 pub record Firm (precedes : Precedence) (opening : List Block) (counter : ℕ) (l : List Version) (kept : ℕ → Bool) (firm : List Block) : Type 0 where
   pub below : (b : ℕ) → kept b ≡ true → b ≤ counter
   pub firm_is : firm ≡ lay opening (kept_writes kept l)
-  pub kept_free : All (λ v. kept v.stamp.begin ≡ true → Released precedes l v) l
-  pub home_in : All (λ v. v.state ≡ Home → kept v.stamp.begin ≡ true) l
+  pub kept_free : AllByRecursion (λ v. kept v.stamp.begin ≡ true → Released precedes l v) l
+  pub home_in : AllByRecursion (λ v. v.state ≡ Home → kept v.stamp.begin ≡ true) l
 
 -- versions in the table that are released: those sent, and those that may be sent next
 abbrev pub Due : Precedence → List Version → List Version → Type 0
-Due precedes l ds = All (λ d. In d l × (live d.state ≡ true) × Released precedes l d) ds
+Due precedes l ds = AllByRecursion (λ d. In d l × (live d.state ≡ true) × Released precedes l d) ds
 
 -- the loose writes are those of released versions of the table
 pub record Stored (precedes : Precedence) (opening : List Block) (counter : ℕ) (l : List Version) (firm : List Block) (loose : List Write) : Type 0 where
@@ -70,7 +70,7 @@ pub record Inv (precedes : Precedence) (opening : List Block) (l : List Version)
   pub book : Book precedes counter l
   pub store : Stored precedes opening counter l m.firm m.loose
   -- every sent version is firm or loose
-  pub sent_in : All (λ v. is_sent v.state ≡ true → plus store.kept store.due v.stamp.begin ≡ true) l
+  pub sent_in : AllByRecursion (λ v. is_sent v.state ≡ true → plus store.kept store.due v.stamp.begin ≡ true) l
 
 abbrev pub Keeps : Precedence → List Block → List Version → Sorted → Type 0
 Keeps precedes opening l c = Inv precedes opening l c.medium c.table c.counter
@@ -105,7 +105,7 @@ before u v l p i j e = go (pairs_in Before u v l p i j)
 
 -- laying writes at other places and then one more
 lay_set : (p : ℕ) (b : Block) (bs : List Block) (kept : ℕ → Bool) (l : List Version) →
-    All (λ f. kept f.stamp.begin ≡ true → f.stamp.place ≢ p) l → lay (set bs p b) (kept_writes kept l) ≡ set (lay bs (kept_writes kept l)) p b
+    AllByRecursion (λ f. kept f.stamp.begin ≡ true → f.stamp.place ≢ p) l → lay (set bs p b) (kept_writes kept l) ≡ set (lay bs (kept_writes kept l)) p b
 lay_set p b bs kept [] a = refl
 lay_set p b bs kept (v ∷ l) a = go (kept v.stamp.begin) refl (λ bs'. lay_set p b bs' kept l a.1)
   where
@@ -119,7 +119,7 @@ lay_set p b bs kept (v ∷ l) a = go (kept v.stamp.begin) refl (λ bs'. lay_set 
 
 -- A write laid last may as well be laid at its begin mark, if no later write of its place is in the set.
 pub lay_in : (v : Version) (opening : List Block) (kept : ℕ → Bool) (l : List Version) → In v l → Pairs Before l →
-    All (λ f. v.stamp.begin < f.stamp.begin → kept f.stamp.begin ≡ true → f.stamp.place ≢ v.stamp.place) l →
+    AllByRecursion (λ f. v.stamp.begin < f.stamp.begin → kept f.stamp.begin ≡ true → f.stamp.place ≢ v.stamp.place) l →
     set (lay opening (kept_writes kept l)) v.stamp.place v.bytes ≡ lay opening (kept_writes (plus_one kept v.stamp.begin) l)
 lay_in v opening kept l (here {vs = vs}) p a =
     rw (same, eq-eqb v.stamp.begin v.stamp.begin refl, or-true (kept v.stamp.begin)) (go (kept v.stamp.begin) ∙ sym slide)

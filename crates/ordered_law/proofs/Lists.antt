@@ -1,7 +1,7 @@
 -- Lists of versions: membership, pairs in order, what a filter and a map do to each other.
 use Rattle.std.proofs.Common.{◌≡◌, ℕ, ◌/◌, ◌%◌, Bool, true, false, cond, eqb, ◌⊎◌, List, [], ◌∷◌, ◌++◌, map, length, set, filter, sym, refl, ap, ◌∙◌, subst, inl, inr, arith}
 use mathlib.Core.Option.{some}
-use Rattle.std.specs.List.{AllByRecursion as All}
+use Rattle.std.specs.List.{AllByRecursion}
 use Rattle.std.proofs.ByRecursion.{All-weaker, all_kept_by}
 use Rattle.std.proofs.lemmas.Bool.{both_ways, cond_both}
 use Rattle.disk.specs.Medium.{Block, Write, lay, standing}
@@ -15,15 +15,15 @@ pub data In (v : Version) : List Version → Type 0 where
   here : {vs : List Version} → In v (v ∷ vs)
   there : {u : Version} {vs : List Version} → In v vs → In v (u ∷ vs)
 
-pub all_in : (P : Version → Type 0) (v : Version) (l : List Version) → In v l → All P l → P v
+pub all_in : (P : Version → Type 0) (v : Version) (l : List Version) → In v l → AllByRecursion P l → P v
 all_in P v l here a = a.0
 all_in P v l (there {vs = vs} i) a = all_in P v vs i a.1
 
-pub all_of : (P : Version → Type 0) (l : List Version) → ((v : Version) → In v l → P v) → All P l
+pub all_of : (P : Version → Type 0) (l : List Version) → ((v : Version) → In v l → P v) → AllByRecursion P l
 all_of P [] f = tt
 all_of P (v ∷ l) f = (f v here, all_of P l (λ u i. f u (there i)))
 
-pub all_both : (P Q R : Version → Type 0) → ((v : Version) → P v → Q v → R v) → (l : List Version) → All P l → All Q l → All R l
+pub all_both : (P Q R : Version → Type 0) → ((v : Version) → P v → Q v → R v) → (l : List Version) → AllByRecursion P l → AllByRecursion Q l → AllByRecursion R l
 all_both P Q R f [] a b = tt
 all_both P Q R f (v ∷ l) a b = (f v a.0 b.0, all_both P Q R f l a.1 b.1)
 
@@ -47,15 +47,15 @@ in_kept p v (u ∷ l) i = go (p u) i (in_kept p v l)
         step u l m (there i) ih = there (ih i)
     go false i ih = there (ih i)
 
-pub pairs_push : (R : Version → Version → Type 0) (x : Version) (l : List Version) → Pairs R l → All (λ u. R u x) l → Pairs R (l ++ x ∷ [])
+pub pairs_push : (R : Version → Version → Type 0) (x : Version) (l : List Version) → Pairs R l → AllByRecursion (λ u. R u x) l → Pairs R (l ++ x ∷ [])
 pairs_push R x [] p a = (tt, tt)
 pairs_push R x (v ∷ l) p a = (push l p.0, pairs_push R x l p.1 a.1)
   where
-    push : (m : List Version) → All (R v) m → All (R v) (m ++ x ∷ [])
+    push : (m : List Version) → AllByRecursion (R v) m → AllByRecursion (R v) (m ++ x ∷ [])
     push [] q = (a.0, tt)
     push (u ∷ m) q = (q.0, push m q.1)
 
-pub all_map : (P Q : Version → Type 0) (g : Version → Version) → ((v : Version) → P v → Q (g v)) → (l : List Version) → All P l → All Q (map g l)
+pub all_map : (P Q : Version → Type 0) (g : Version → Version) → ((v : Version) → P v → Q (g v)) → (l : List Version) → AllByRecursion P l → AllByRecursion Q (map g l)
 all_map P Q g f [] a = tt
 all_map P Q g f (v ∷ l) a = (f v a.0, all_map P Q g f l a.1)
 
@@ -125,11 +125,11 @@ held_push x e (v ∷ l) = go (live v.state) (held_push x e l)
     go false ih = ih
 
 -- what a filter keeps passes, seen from the whole list
-pub none_pass : (p q : Version → Bool) (l : List Version) → some_pass q (filter p l) ≡ false → All (λ v. p v ≡ true → q v ≡ false) l
+pub none_pass : (p q : Version → Bool) (l : List Version) → some_pass q (filter p l) ≡ false → AllByRecursion (λ v. p v ≡ true → q v ≡ false) l
 none_pass p q [] e = tt
 none_pass p q (v ∷ l) e = go (p v) refl e (none_pass p q l)
   where
-    go : (b : Bool) → p v ≡ b → some_pass q (cond b (v ∷ filter p l) (filter p l)) ≡ false → (some_pass q (filter p l) ≡ false → All (λ v. p v ≡ true → q v ≡ false) l) → All (λ v. p v ≡ true → q v ≡ false) (v ∷ l)
+    go : (b : Bool) → p v ≡ b → some_pass q (cond b (v ∷ filter p l) (filter p l)) ≡ false → (some_pass q (filter p l) ≡ false → AllByRecursion (λ v. p v ≡ true → q v ≡ false) l) → AllByRecursion (λ v. p v ≡ true → q v ≡ false) (v ∷ l)
     go true b e ih = ((λ _. grind arith), ih (grind arith))
     go false b e ih = ((λ h. grind arith), ih e)
 
@@ -154,16 +154,16 @@ map_standing choice (v ∷ l) = go _ _ _ (map_standing (choice / 2) l)
     go true ws vs e = ap (λ x. write_of v ∷ x) e
     go false ws vs e = e
 
-pub all_standing : (P : Version → Type 0) (choice : ℕ) (l : List Version) → All P l → All P (chosen_by choice l)
+pub all_standing : (P : Version → Type 0) (choice : ℕ) (l : List Version) → AllByRecursion P l → AllByRecursion P (chosen_by choice l)
 all_standing P choice [] a = tt
 all_standing P choice (v ∷ l) a = go _ _ (all_standing P (choice / 2) l a.1)
   where
-    go : (b : Bool) (vs : List Version) → All P vs → All P (cond b (v ∷ vs) vs)
+    go : (b : Bool) (vs : List Version) → AllByRecursion P vs → AllByRecursion P (cond b (v ∷ vs) vs)
     go true vs r = (a.0, r)
     go false vs r = r
 
 -- two sets that agree on a ledger keep the same of it
-pub kept_same : (kept kept' : ℕ → Bool) (l : List Version) → All (λ v. kept v.stamp.begin ≡ kept' v.stamp.begin) l → kept_writes kept l ≡ kept_writes kept' l
+pub kept_same : (kept kept' : ℕ → Bool) (l : List Version) → AllByRecursion (λ v. kept v.stamp.begin ≡ kept' v.stamp.begin) l → kept_writes kept l ≡ kept_writes kept' l
 kept_same kept kept' [] a = refl
 kept_same kept kept' (v ∷ l) a = cc (a.0, kept_same kept kept' l a.1)
 

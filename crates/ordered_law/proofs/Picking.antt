@@ -1,7 +1,7 @@
 -- A scan over the rows finds the row of the version that the definition picks; and marking that row is marking that version.
 use Rattle.std.proofs.Common.{◌≡◌, ℕ, zero, suc, ◌+◌, ◌<◌, Bool, true, false, cond, ◌&&◌, eqb, ltb, ◌≢◌, List, [], ◌∷◌, length, get_or, drop, set, Some, None, Option, sym, refl, ap, ◌∙◌, subst, ap₂, add-one, arith}
 use mathlib.Core.Option as option
-use Rattle.std.specs.List.{AllByRecursion as All}
+use Rattle.std.specs.List.{AllByRecursion}
 use Rattle.std.proofs.lemmas.Bool.{ltb-true, ltb-false, lt-ltb, le-ltb}
 use Rattle.std.proofs.lemmas.Bool.Decides.{nat_tests}
 use Rattle.table.specs.declared.held.State.TheVariants.{Sent}
@@ -150,7 +150,7 @@ finds_highest p table = finds higher higher_of p table (λ n. refl) (λ v. refl)
 abbrev pub Distinct : List Version → Type 0
 Distinct l = Pairs (λ u v. u.stamp.begin ≢ v.stamp.begin) l
 
-pub all_at : (P : Version → Type 0) (rows : List Row) (i : ℕ) (v : Version) → get_or rows i Vacant ≡ Held v → All P (in_rows rows) → P v
+pub all_at : (P : Version → Type 0) (rows : List Row) (i : ℕ) (v : Version) → get_or rows i Vacant ≡ Held v → AllByRecursion P (in_rows rows) → P v
 all_at P [] zero v e a = differ e
 all_at P [] (suc i) v e a = differ e
 all_at P (Vacant ∷ rows) zero v e a = differ e
@@ -165,7 +165,7 @@ unsent b u h = go (is_waiting u.state) (eqb u.stamp.begin b) (grind (arith, nat_
     go true k e = rw e
     go false k e = refl
 
-unsent_all : (b : ℕ) (rows : List Row) → All (λ u. b ≢ u.stamp.begin) (in_rows rows) → change (send_one b) rows ≡ rows
+unsent_all : (b : ℕ) (rows : List Row) → AllByRecursion (λ u. b ≢ u.stamp.begin) (in_rows rows) → change (send_one b) rows ≡ rows
 unsent_all b [] a = refl
 unsent_all b (Vacant ∷ rows) a = ap (λ l. Vacant ∷ l) (unsent_all b rows a)
 unsent_all b (Held u ∷ rows) a = let h = unsent b u (λ e. a.0 (sym e)) in rw (h, unsent_all b rows a.1)
@@ -181,7 +181,7 @@ sent_row (Vacant ∷ rows) zero v e w d = differ e
 sent_row (Vacant ∷ rows) (suc i) v e w d = ap (λ l. Vacant ∷ l) (sent_row rows i v e w d)
 sent_row (Held u ∷ rows) zero v e w d =
     let same = same_version e in
-    let others = subst (λ (x : Version). All (λ y. x.stamp.begin ≢ y.stamp.begin) (in_rows rows)) same d.0 in
+    let others = subst (λ (x : Version). AllByRecursion (λ y. x.stamp.begin ≢ y.stamp.begin) (in_rows rows)) same d.0 in
     rw (same, sent_here v w, unsent_all v.stamp.begin rows others)
 sent_row (Held u ∷ rows) (suc i) v e w d =
     let h = unsent v.stamp.begin u (all_at (λ y. u.stamp.begin ≢ y.stamp.begin) rows i v e d.0) in

@@ -1,7 +1,7 @@
 -- A read shows the newest finished write of its place.
 use Rattle.std.proofs.Common.{◌≡◌, ℕ, ◌<◌, Bool, true, false, cond, not, ◌&&◌, eqb, ltb, ◌≢◌, List, [], ◌∷◌, map, length, get_or, set, sym, refl, ap, ◌∙◌, subst, arith, get_or-set_other, get_or-set_same}
 use mathlib.Core.Option.{Option, none, some}
-use Rattle.std.specs.List.{AllByRecursion as All}
+use Rattle.std.specs.List.{AllByRecursion}
 use Rattle.std.proofs.lemmas.List.{length-set}
 use Rattle.std.proofs.lemmas.Bool.{cond_both, both_ways, and_parts, eqb-true, ltb-true, not-false}
 use Rattle.std.proofs.lemmas.Bool.Decides.{nat_tests}
@@ -47,16 +47,16 @@ lay_shown q place (v ∷ l) bs lt = go (q v) (λ bs' h. lay_shown q place l bs' 
         ∙ ap (last_bytes P l) (set_shown bs v.stamp.place place v.bytes lt (eqb v.stamp.place place) refl)
     go false ih = ih bs lt
 
-same_bytes : (p q : Version → Bool) (l : List Version) (d : Block) → All (λ v. p v ≡ q v) l → last_bytes p l d ≡ last_bytes q l d
+same_bytes : (p q : Version → Bool) (l : List Version) (d : Block) → AllByRecursion (λ v. p v ≡ q v) l → last_bytes p l d ≡ last_bytes q l d
 same_bytes p q [] d a = refl
 same_bytes p q (v ∷ l) d a = ap (λ k. last_bytes p l (cond k v.bytes d)) a.0 ∙ same_bytes p q l (cond (q v) v.bytes d) a.1
 
-no_bytes : (p : Version → Bool) (l : List Version) (d : Block) → All (λ v. p v ≡ false) l → last_bytes p l d ≡ d
+no_bytes : (p : Version → Bool) (l : List Version) (d : Block) → AllByRecursion (λ v. p v ≡ false) l → last_bytes p l d ≡ d
 no_bytes p [] d a = refl
 no_bytes p (v ∷ l) d a = ap (λ k. last_bytes p l (cond k v.bytes d)) a.0 ∙ no_bytes p l d a.1
 
 -- v passes, and nothing after it does
-its_bytes : (p : Version → Bool) (v : Version) (l : List Version) (d : Block) → In v l → Pairs Before l → p v ≡ true → All (λ w. v.stamp.begin < w.stamp.begin → p w ≡ false) l → last_bytes p l d ≡ v.bytes
+its_bytes : (p : Version → Bool) (v : Version) (l : List Version) (d : Block) → In v l → Pairs Before l → p v ≡ true → AllByRecursion (λ w. v.stamp.begin < w.stamp.begin → p w ≡ false) l → last_bytes p l d ≡ v.bytes
 its_bytes p v l d (here {vs = vs}) o h a =
     ap (λ k. last_bytes p vs (cond k v.bytes d)) h ∙ no_bytes p vs v.bytes (all_both (Before v) _ _ (λ w b f. f b.earlier) vs o.0 a.1)
 its_bytes p v l d (there {u = u} {vs = vs} i) o h a = its_bytes p v vs (cond (p u) u.bytes d) i o.1 h a.1
@@ -66,11 +66,11 @@ its_bytes p v l d (there {u = u} {vs = vs} i) o h a = its_bytes p v vs (cond (p 
 record Last (p : Version → Bool) (v : Version) (l : List Version) : Type 0 where
   inside : In v l
   passes : p v ≡ true
-  none_later : All (λ w. v.stamp.begin < w.stamp.begin → p w ≡ false) l
+  none_later : AllByRecursion (λ w. v.stamp.begin < w.stamp.begin → p w ≡ false) l
 
 abbrev Found : (Version → Bool) → List Version → Option Version → Type 0
 Found p l (some v) = Last p v l
-Found p l none = All (λ v. p v ≡ false) l
+Found p l none = AllByRecursion (λ v. p v ≡ false) l
 
 found_last : (p : Version → Bool) (l : List Version) → Pairs Before l → Found p l (last p l)
 found_last p [] o = tt
@@ -87,23 +87,23 @@ found_last p (x ∷ l) o = go (last p l) (found_last p l o.1) (p x) refl
 
 -- ---- the read
 
-in_held : (p : Version → Bool) (l : List Version) → All (λ v. p v ≡ false) (held l) → All (λ v. live v.state ≡ true → p v ≡ false) l
+in_held : (p : Version → Bool) (l : List Version) → AllByRecursion (λ v. p v ≡ false) (held l) → AllByRecursion (λ v. live v.state ≡ true → p v ≡ false) l
 in_held p [] a = tt
 in_held p (v ∷ l) a = go (live v.state) refl a (in_held p l)
   where
-    go : (k : Bool) → live v.state ≡ k → All (λ u. p u ≡ false) (cond k (v ∷ held l) (held l)) → (All (λ u. p u ≡ false) (held l) → All (λ u. live u.state ≡ true → p u ≡ false) l) →
-        All (λ u. live u.state ≡ true → p u ≡ false) (v ∷ l)
+    go : (k : Bool) → live v.state ≡ k → AllByRecursion (λ u. p u ≡ false) (cond k (v ∷ held l) (held l)) → (AllByRecursion (λ u. p u ≡ false) (held l) → AllByRecursion (λ u. live u.state ≡ true → p u ≡ false) l) →
+        AllByRecursion (λ u. live u.state ≡ true → p u ≡ false) (v ∷ l)
     go true e a ih = ((λ _. a.0), ih a.1)
     go false e a ih = ((λ h. absurd (both_ways (live v.state) e h)), ih a)
 
-later_held : (p : Version → Bool) (n : ℕ) (l : List Version) → All (λ w. n < w.stamp.begin → p w ≡ false) (held l) → All (λ w. live w.state ≡ true → n < w.stamp.begin → p w ≡ false) l
+later_held : (p : Version → Bool) (n : ℕ) (l : List Version) → AllByRecursion (λ w. n < w.stamp.begin → p w ≡ false) (held l) → AllByRecursion (λ w. live w.state ≡ true → n < w.stamp.begin → p w ≡ false) l
 later_held p n [] a = tt
 later_held p n (v ∷ l) a = go (live v.state) refl a (later_held p n l)
   where
     Q : Version → Type 0
     Q w = n < w.stamp.begin → p w ≡ false
 
-    go : (k : Bool) → live v.state ≡ k → All Q (cond k (v ∷ held l) (held l)) → (All Q (held l) → All (λ w. live w.state ≡ true → Q w) l) → All (λ w. live w.state ≡ true → Q w) (v ∷ l)
+    go : (k : Bool) → live v.state ≡ k → AllByRecursion Q (cond k (v ∷ held l) (held l)) → (AllByRecursion Q (held l) → AllByRecursion (λ w. live w.state ≡ true → Q w) l) → AllByRecursion (λ w. live w.state ≡ true → Q w) (v ∷ l)
     go true e a ih = ((λ _. a.0), ih a.1)
     go false e a ih = ((λ h. absurd (both_ways (live v.state) e h)), ih a)
 
@@ -142,7 +142,7 @@ module _ (precedes : Precedence) (lawful : Lawful precedes) (opening : List Bloc
       done : (finished v.state ≡ true) × (eqb v.stamp.place place ≡ true)
       done = and_parts (finished v.state) (eqb v.stamp.place place) f.passes
 
-      homes : All (λ w. w.state ≡ Home → v.stamp.begin < w.stamp.begin → w.stamp.place ≢ v.stamp.place) l
+      homes : AllByRecursion (λ w. w.state ≡ Home → v.stamp.begin < w.stamp.begin → w.stamp.place ≢ v.stamp.place) l
       homes = all_of _ l (λ w j h lt. no_later precedes lawful c.counter l i.book v w in_ledger alive done.0 j
           (all_in (λ x. set_now x.stamp.begin ≡ true → Released precedes l x) w l j now_firm.kept_free (all_in (λ x. x.state ≡ Home → set_now x.stamp.begin ≡ true) w l j now_firm.home_in h)) lt)
 
@@ -158,7 +158,7 @@ module _ (precedes : Precedence) (lawful : Lawful precedes) (opening : List Bloc
               (eqb-true w.stamp.place place q.1 ∙ sym (eqb-true v.stamp.place place done.1)))
 
   -- with none of the place finished in the table, storage holds the newest
-  from_disk : All (λ v. at_place v ≡ false) (held l) → Newest (get_or (current c.medium) place [])
+  from_disk : AllByRecursion (λ v. at_place v ≡ false) (held l) → Newest (get_or (current c.medium) place [])
   from_disk a =
       ap (λ (bs : List Block). get_or bs place []) (ap (lay c.medium.firm) i.store.loose_is ∙ now_firm.firm_is)
       ∙ lay_shown (λ v. set_now v.stamp.begin) place l opening within

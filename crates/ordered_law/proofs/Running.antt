@@ -1,6 +1,6 @@
 -- A run of the cache of rows is a list of calls of the cache in the order of begin marks, and so the laws hold along it.
 use Rattle.std.proofs.Common.{◌≡◌, ℕ, ◌+◌, ◌*◌, true, ◌≢◌, List, [], ◌∷◌, ◌++◌, map, length, sym, refl, ap, ◌∙◌, subst, ap₂, subst₂, arith}
-use Rattle.std.specs.List.{AllByRecursion as All}
+use Rattle.std.specs.List.{AllByRecursion}
 use Rattle.std.proofs.lemmas.List.{length-map, map_push}
 use Rattle.disk.specs.Medium.{Medium, current, cut}
 use Rattle.table.specs.declared.held.State.TheVariants.{Open, Home}
@@ -73,7 +73,7 @@ bounded_rows c b = record {
   fitting = all_from_order (Fitting (length c.medium.firm)) (in_rows c.rows) b.fitting;
 }
 
-only_steps : (asked : List Asked) (es : List Event) → map (λ a. a.call) asked ≡ map (λ e. e.call) es → All (λ e. e.call ≡ Step) es →
+only_steps : (asked : List Asked) (es : List Event) → map (λ a. a.call) asked ≡ map (λ e. e.call) es → AllByRecursion (λ e. e.call ≡ Step) es →
     (steps (map (λ a. a.device) asked) ≡ asked) × (length asked ≡ length es)
 only_steps [] [] q a = (refl, refl)
 only_steps [] (e ∷ es) q a = absurd (let z : ◌≡◌ {A = ℕ} 0 1 = cc in omega arith)
@@ -105,11 +105,11 @@ lawful_runs precedes lawful m es c r =
           let g = followed precedes f.fit f.bounded ran in
           let o = only_steps g.asked ss g.calls only in
           let devices : List Device = map (λ (x : Asked). x.device) g.asked in
-          subst (λ (l : List Event). All (λ v. finished v.state ≡ true → v.state ≡ Home) (replay precedes [] l))
+          subst (λ (l : List Event). AllByRecursion (λ v. finished v.state ≡ true → v.state ≡ Home) (replay precedes [] l))
           (events_append precedes f.asked (steps devices) (sorted_opened m)
           ∙ ap₂ (λ (x y : List Event). x ++ y) f.answered (ap₂ (λ (x : Sorted) (l : List Asked). events precedes x l) f.reached o.0 ∙ g.answered))
           (drains precedes lawful m f.asked devices
-          (subst (λ (l : List Event). All (λ v. v.state ≢ Open) (replay precedes [] l)) (sym f.answered) shut)
+          (subst (λ (l : List Event). AllByRecursion (λ v. v.state ≢ Open) (replay precedes [] l)) (sym f.answered) shut)
           (length-map g.asked (λ (x : Asked). x.device) ∙ o.1
           ∙ subst₂ (λ (l : List Event) (x : Sorted). length ss ≡ 2 * unhomed (replay precedes [] l) + bads x.medium.plan) (sym f.answered) (sym f.reached) n));
       tally_true = counts_true;

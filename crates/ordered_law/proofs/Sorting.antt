@@ -2,7 +2,7 @@
 use Rattle.std.proofs.Common.{◌≡◌, ◌+◌, ◌<◌, ◌≤◌, Bool, true, false, cond, ◌||◌, ltb, List, [], ◌∷◌, ◌++◌, map, length, filter, sym, refl, ap, ◌∙◌, ap₂, arith}
 use mathlib.Core.Option.{Option, none, some}
 use Rattle.table.specs.declared.held.Row.TheVariants.{Vacant, Held}
-use Rattle.std.specs.List.{AllByRecursion as All}
+use Rattle.std.specs.List.{AllByRecursion}
 use Rattle.std.proofs.lemmas.Bool.{ltb-true, ltb-false, lt-ltb, le-ltb, cond_both, both_ways}
 use Rattle.std.proofs.ByRecursion.{All-weaker, all_kept_by}
 use Rattle.table.specs.declared.held.Version.{Version}
@@ -26,11 +26,11 @@ in_order (v ∷ vs) = insert v (in_order vs)
 abbrev Rising : List Version → Type 0
 Rising l = Pairs (λ u v. u.stamp.begin ≤ v.stamp.begin) l
 
-all_insert : (P : Version → Type 0) (v : Version) (l : List Version) → P v → All P l → All P (insert v l)
+all_insert : (P : Version → Type 0) (v : Version) (l : List Version) → P v → AllByRecursion P l → AllByRecursion P (insert v l)
 all_insert P v [] h a = (h, tt)
-all_insert P v (u ∷ l) h a = cond_both (ltb v.stamp.begin u.stamp.begin) _ _ (All P) (λ _. (h, a)) (λ _. (a.0, all_insert P v l h a.1))
+all_insert P v (u ∷ l) h a = cond_both (ltb v.stamp.begin u.stamp.begin) _ _ (AllByRecursion P) (λ _. (h, a)) (λ _. (a.0, all_insert P v l h a.1))
 
-pub all_in_order : (P : Version → Type 0) (l : List Version) → All P l → All P (in_order l)
+pub all_in_order : (P : Version → Type 0) (l : List Version) → AllByRecursion P l → AllByRecursion P (in_order l)
 all_in_order P [] a = tt
 all_in_order P (v ∷ l) a = all_insert P v (in_order l) a.0 (all_in_order P l a.1)
 
@@ -82,15 +82,15 @@ pub in_order_map : (g : Version → Version) → ((v : Version) → (g v).stamp.
 in_order_map g b [] = refl
 in_order_map g b (v ∷ l) = ap (insert (g v)) (in_order_map g b l) ∙ insert_map g b v (in_order l)
 
-insert_front : (v : Version) (l : List Version) → All (λ u. v.stamp.begin < u.stamp.begin) l → insert v l ≡ v ∷ l
+insert_front : (v : Version) (l : List Version) → AllByRecursion (λ u. v.stamp.begin < u.stamp.begin) l → insert v l ≡ v ∷ l
 insert_front v [] a = refl
 insert_front v (u ∷ l) a = let e = lt-ltb v.stamp.begin u.stamp.begin a.0 in rw e
 
-insert_last : (v : Version) (l : List Version) → All (λ u. u.stamp.begin < v.stamp.begin) l → insert v l ≡ l ++ v ∷ []
+insert_last : (v : Version) (l : List Version) → AllByRecursion (λ u. u.stamp.begin < v.stamp.begin) l → insert v l ≡ l ++ v ∷ []
 insert_last v [] a = refl
 insert_last v (u ∷ l) a = let h = a.0 in let e = le-ltb v.stamp.begin u.stamp.begin (omega arith) in rw e (ap (λ x. u ∷ x) (insert_last v l a.1))
 
-above : (v u : Version) (l : List Version) → v.stamp.begin < u.stamp.begin → All (λ w. u.stamp.begin ≤ w.stamp.begin) l → All (λ w. v.stamp.begin < w.stamp.begin) (u ∷ l)
+above : (v u : Version) (l : List Version) → v.stamp.begin < u.stamp.begin → AllByRecursion (λ w. u.stamp.begin ≤ w.stamp.begin) l → AllByRecursion (λ w. v.stamp.begin < w.stamp.begin) (u ∷ l)
 above v u l lt a = (lt, All-weaker (λ w. u.stamp.begin ≤ w.stamp.begin) (λ w. v.stamp.begin < w.stamp.begin) (λ w h. omega arith) l a)
 
 insert_kept : (p : Version → Bool) (v : Version) (l : List Version) → Rising l → filter p (insert v l) ≡ cond (p v) (insert v (filter p l)) (filter p l)
@@ -121,7 +121,7 @@ in_order_kept p (v ∷ l) = go (p v) (in_order_kept p l) ∙ sym (insert_kept p 
 
 -- ---- the lowest and the highest that pass
 
-lower_front : (p : Version → Bool) (v : Version) (l : List Version) → All (λ w. v.stamp.begin < w.stamp.begin) l → lower v (first p l) ≡ v
+lower_front : (p : Version → Bool) (v : Version) (l : List Version) → AllByRecursion (λ w. v.stamp.begin < w.stamp.begin) l → lower v (first p l) ≡ v
 lower_front p v [] a = refl
 lower_front p v (u ∷ l) a = cond_both (p u) _ _ (λ o. lower v o ≡ v) (λ _. let e = lt-ltb v.stamp.begin u.stamp.begin a.0 in rw e) (λ _. lower_front p v l a.1)
 
@@ -144,7 +144,7 @@ pub in_order_first : (p : Version → Bool) (l : List Version) → first p (in_o
 in_order_first p [] = refl
 in_order_first p (v ∷ l) = insert_first p v (in_order l) (rising l) ∙ ap (λ o. cond (p v) (some (lower v o)) o) (in_order_first p l)
 
-last_front : (p : Version → Bool) (v : Version) (l : List Version) → All (λ w. v.stamp.begin < w.stamp.begin) l → or_else (last p l) (some v) ≡ some (higher v (last p l))
+last_front : (p : Version → Bool) (v : Version) (l : List Version) → AllByRecursion (λ w. v.stamp.begin < w.stamp.begin) l → or_else (last p l) (some v) ≡ some (higher v (last p l))
 last_front p v [] a = refl
 last_front p v (u ∷ l) a = go (last p l) (last_front p v l a.1) (p u)
   where
@@ -195,7 +195,7 @@ insert_before u v lt (x ∷ l) = go (ltb u.stamp.begin x.stamp.begin) (insert_be
     go true ih = refl
     go false ih = ap (λ y. x ∷ y) ih
 
-pub in_order_put : (v : Version) (rows : List Row) → some_vacant rows ≡ true → All (λ u. u.stamp.begin < v.stamp.begin) (in_rows rows) →
+pub in_order_put : (v : Version) (rows : List Row) → some_vacant rows ≡ true → AllByRecursion (λ u. u.stamp.begin < v.stamp.begin) (in_rows rows) →
     in_order (in_rows (put v rows)) ≡ in_order (in_rows rows) ++ v ∷ []
 in_order_put v [] e a = absurd (both_ways false refl e)
 in_order_put v (Vacant ∷ rows) e a = insert_last v (in_order (in_rows rows)) (all_in_order (λ u. u.stamp.begin < v.stamp.begin) (in_rows rows) a)
@@ -203,14 +203,14 @@ in_order_put v (Held u ∷ rows) e a = ap (insert u) (in_order_put v rows e a.1)
 
 -- ---- and back
 
-insert_all : (P : Version → Type 0) (v : Version) (l : List Version) → All P (insert v l) → P v × All P l
+insert_all : (P : Version → Type 0) (v : Version) (l : List Version) → AllByRecursion P (insert v l) → P v × AllByRecursion P l
 insert_all P v [] a = (a.0, tt)
 insert_all P v (u ∷ l) a = go (ltb v.stamp.begin u.stamp.begin) (insert_all P v l) a
   where
-    go : (k : Bool) → (All P (insert v l) → P v × All P l) → All P (cond k (v ∷ u ∷ l) (u ∷ insert v l)) → P v × All P (u ∷ l)
+    go : (k : Bool) → (AllByRecursion P (insert v l) → P v × AllByRecursion P l) → AllByRecursion P (cond k (v ∷ u ∷ l) (u ∷ insert v l)) → P v × AllByRecursion P (u ∷ l)
     go true ih a = (a.0, a.1)
     go false ih a = let r = ih a.1 in (r.0, (a.0, r.1))
 
-pub all_from_order : (P : Version → Type 0) (l : List Version) → All P (in_order l) → All P l
+pub all_from_order : (P : Version → Type 0) (l : List Version) → AllByRecursion P (in_order l) → AllByRecursion P l
 all_from_order P [] a = tt
 all_from_order P (v ∷ l) a = let r = insert_all P v (in_order l) a in (r.0, all_from_order P l r.1)

@@ -1,6 +1,6 @@
 -- What a cache never exceeds.
 use Rattle.std.specs.Prelude.{◌≡◌, ℕ, ◌+◌, ◌<◌, ◌≤◌, List, length}
-use Rattle.std.specs.List.{AllByRecursion as All}
+use Rattle.std.specs.List.{AllByRecursion}
 use Rattle.table.specs.declared.held.Version.{Version}
 use Rattle.table.specs.Versions.{capacity, reserved}
 use Rattle.ordered_law.specs.Cache.{last_mark}
@@ -16,4 +16,4 @@ pub record Bounded (blocks : ℕ) (table : List Version) (counter : ℕ) : Type 
   -- a mark is left for each write that still takes one
   pub marks : counter + reserved table ≤ last_mark
   -- every write that is held fits the disk
-  pub fitting : All (Fitting blocks) table
+  pub fitting : AllByRecursion (Fitting blocks) table

@@ -1,6 +1,6 @@
 -- What the ordered cache promises of storage.
 use Rattle.std.specs.Prelude.{◌≡◌, ℕ, ◌+◌, ◌<◌, Bool, true, cond, ◌||◌, ◌≢◌, List, [], ◌∷◌, length, filter, slice_index_or}
-use Rattle.std.specs.List.{AllByRecursion as All}
+use Rattle.std.specs.List.{AllByRecursion}
 use Rattle.disk.specs.Medium.{Block, Write, lay, Entry, good, bad}
 use Rattle.precedence.specs.Stamps.{Precedence}
 use Rattle.table.specs.declared.held.State.TheVariants.{Home, Withdrawn}
@@ -22,7 +22,7 @@ kept_writes kept ledger = writes (λ v. kept v.stamp.begin) ledger
 -- R holds of each element and every later one
 abbrev pub Pairs : {A : Type 0} → (A → A → Type 0) → List A → Type 0
 Pairs R [] = Unit {0}
-Pairs R (x ∷ xs) = All (R x) xs × Pairs R xs
+Pairs R (x ∷ xs) = AllByRecursion (R x) xs × Pairs R xs
 
 -- Storage shows the opening blocks with a closed set of writes laid on.
 pub record Shows (precedes : Precedence) (opening : List Block) (ledger : List Version) (blocks : List Block) : Type 0 where
@@ -33,13 +33,13 @@ pub record Shows (precedes : Precedence) (opening : List Block) (ledger : List V
   -- storage shows the opening blocks with these writes laid on by begin mark
   pub laid : blocks ≡ lay opening (kept_writes kept ledger)
   -- only finished writes are among them
-  pub only_finished : All (λ v. kept v.stamp.begin ≡ true → finished v.state ≡ true) ledger
+  pub only_finished : AllByRecursion (λ v. kept v.stamp.begin ≡ true → finished v.state ≡ true) ledger
   -- every home write is among them
-  pub all_home : All (λ v. v.state ≡ Home → kept v.stamp.begin ≡ true) ledger
+  pub all_home : AllByRecursion (λ v. v.state ≡ Home → kept v.stamp.begin ≡ true) ledger
   -- and with each write among them every write that precedes it and was not withdrawn
   pub with_preceding :
-      All (λ v. kept v.stamp.begin ≡ true →
-      All (λ u. precedes u.stamp v.stamp ≡ true → u.state ≢ Withdrawn → kept u.stamp.begin ≡ true) ledger) ledger
+      AllByRecursion (λ v. kept v.stamp.begin ≡ true →
+      AllByRecursion (λ u. precedes u.stamp v.stamp ≡ true → u.state ≢ Withdrawn → kept u.stamp.begin ≡ true) ledger) ledger
 
 -- The newest block of a place: that of the opening blocks with all finished writes laid on by begin mark.
 abbrev pub newest_block : List Block → List Version → ℕ → Block

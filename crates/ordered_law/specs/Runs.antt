@@ -1,6 +1,6 @@
 -- Runs of the cache, and the laws that hold along them.
 use Rattle.std.specs.Prelude.{◌≡◌, ℕ, ◌+◌, ◌*◌, true, ◌≢◌, List, [], ◌∷◌, ◌++◌, length}
-use Rattle.std.specs.List.{AllByRecursion as All}
+use Rattle.std.specs.List.{AllByRecursion}
 use Rattle.disk.specs.Medium.{Block, Medium, size, current, cut}
 use Rattle.precedence.specs.Stamps.{Precedence, Lawful, overlap, line}
 use Rattle.table.specs.declared.held.State.TheVariants.{Open, Home}
@@ -41,10 +41,10 @@ pub record Laws (precedes : Precedence) (o : Opening) (es : List Event) (c : Cac
   pub reads_newest : (device : Device) (place n : ℕ) (block : Block) → (outcome precedes device (Read place n) c).answer ≡ shown block → block ≡ newest_block (current o.medium) (ledger precedes o es) place
   -- a drain ends: with w finished writes not home, none open and b bad entries left, 2 * w + b steps in a row bring all
   -- home
-  pub drains : (steps : List Event) (d : Cache) → Ran precedes c steps d → All (λ e. e.call ≡ Step) steps →
-      All (λ v. v.state ≢ Open) (ledger precedes o es) →
+  pub drains : (steps : List Event) (d : Cache) → Ran precedes c steps d → AllByRecursion (λ e. e.call ≡ Step) steps →
+      AllByRecursion (λ v. v.state ≢ Open) (ledger precedes o es) →
       length steps ≡ 2 * unhomed (ledger precedes o es) + bads c.medium.plan →
-      All (λ v. finished v.state ≡ true → v.state ≡ Home) (ledger precedes o (es ++ steps))
+      AllByRecursion (λ v. finished v.state ≡ true → v.state ≡ Home) (ledger precedes o (es ++ steps))
   -- the tally is true: each count is the ledger's, and begun is the sum of the other five
   pub tally_true : tally c ≡ ledger_tally (ledger precedes o es)
   pub tally_adds_up : AddsUp (tally c)

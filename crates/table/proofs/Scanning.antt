@@ -10,7 +10,7 @@ use Rattle.precedence.specs.Stamps.{Precedence}
 use Rattle.table.specs.Versions.{is_waiting, some_pass, ready}
 use Rattle.table.specs.Rows.{in_rows, row_passes, stamp_of}
 use Rattle.table.specs.Scans.{candidate, in_table, lower_of, higher_of, best_from, Lowest}
-use Rattle.std.specs.List.{AllByRecursion as All}
+use Rattle.std.specs.List.{AllByRecursion}
 use Rattle.std.proofs.lemmas.Bool.{ltb-true, ltb-false}
 use Rattle.std.proofs.ByRecursion.{All-weaker}
 
@@ -104,11 +104,11 @@ module _ (p : Version → Bool) where
   AtMost n (Some b) = n.begin ≤ b.begin
 
   abbrev Above : Candidate → List Row → Type 0
-  Above n rows = All (λ u. p u ≡ true → n.begin ≤ u.stamp.begin) (in_rows rows)
+  Above n rows = AllByRecursion (λ u. p u ≡ true → n.begin ≤ u.stamp.begin) (in_rows rows)
 
   -- what a scan of these rows makes of the best so far
   abbrev Scanned : Option Candidate → ℕ → List Row → Option Candidate → Type 0
-  Scanned best i rows None = (best ≡ None) × All (λ v. p v ≡ false) (in_rows rows)
+  Scanned best i rows None = (best ≡ None) × AllByRecursion (λ v. p v ≡ false) (in_rows rows)
   Scanned best i rows (Some n) = ((best ≡ Some n) ⊎ At i rows n) × AtMost n best × Above n rows
 
   later : (r : Row) (i : ℕ) (rows : List Row) (n : Candidate) → At (i + 1) rows n → At i (r ∷ rows) n

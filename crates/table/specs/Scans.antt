@@ -1,6 +1,6 @@
 -- The scans for one row.
 use Rattle.std.specs.Prelude.{◌≡◌, ℕ, ◌+◌, ◌<◌, ◌≤◌, Bool, true, false, cond, List, [], ◌∷◌, Some, None, Option, nat_lt, slice_index_or}
-use Rattle.std.specs.List.{AllByRecursion as All}
+use Rattle.std.specs.List.{AllByRecursion}
 use Rattle.precedence.specs.Stamps.{Precedence}
 use Rattle.table.specs.declared.held.Version.{Version}
 use Rattle.table.specs.declared.held.Row.{Row}
@@ -43,7 +43,7 @@ newest_at place rows = best_from higher_of (finished_in place) 0 rows None
 -- What a scan for the lowest promises, whatever way it goes: the row found holds a version that passes, and none that
 -- passes has a lower begin mark; it finds none exactly when none passes.
 abbrev pub Lowest : (Version → Bool) → List Row → Option Candidate → Type 0
-Lowest p rows None = All (λ v. p v ≡ false) (in_rows rows)
+Lowest p rows None = AllByRecursion (λ v. p v ≡ false) (in_rows rows)
 Lowest p rows (Some n) =
     (v : Version) × (slice_index_or rows n.row Vacant ≡ Held v) × (n.begin ≡ v.stamp.begin) × (p v ≡ true)
-    × All (λ u. p u ≡ true → v.stamp.begin ≤ u.stamp.begin) (in_rows rows)
+    × AllByRecursion (λ u. p u ≡ true → v.stamp.begin ≤ u.stamp.begin) (in_rows rows)
