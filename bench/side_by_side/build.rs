@@ -12,5 +12,5 @@ fn main() {
     println!("cargo:rustc-link-search=native={proved}");
     println!("cargo:rustc-link-search=native={kit}");
     println!("cargo:rustc-link-lib=static=capi");
-    println!("cargo:rustc-link-lib=static=rattle_c");
+    println!("cargo:rustc-link-lib=static=libc_c");
 }
