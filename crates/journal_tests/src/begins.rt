@@ -6,9 +6,8 @@ use std::test::Fail;
 // Of eleven blocks two are home places.
 #[test]
 fn length_then_place_then_open(rt: HostRuntime) -> Result<(), Fail> {
-    let mut cache = live(&rt, held(rt.alloc(), 11, &[])?)?;
+    let mut cache = live(held(rt.alloc(), 11, &[])?)?;
     play(
-        &rt,
         &mut cache,
         &[
             (BeginShort(2), 101),
@@ -18,19 +17,18 @@ fn length_then_place_then_open(rt: HostRuntime) -> Result<(), Fail> {
             (Finish(1), 2),
             (Begin(1, 2), 3),
         ],
-    );
+    )?;
     Ok(())
 }
 
 // A place both collected and open counts once, a withdrawn write and the sealed group count not at all.
 #[test]
 fn eight_places_and_no_more(rt: HostRuntime) -> Result<(), Fail> {
-    let mut cache = live(&rt, held(rt.alloc(), 20, &[])?)?;
+    let mut cache = live(held(rt.alloc(), 20, &[])?)?;
     for place in 0..8 {
         assert!(rt; cache.begin(place, &[1; 512]).is_ok());
     }
     play(
-        &rt,
         &mut cache,
         &[
             (Begin(11, 1), 102),
@@ -49,15 +47,14 @@ fn eight_places_and_no_more(rt: HostRuntime) -> Result<(), Fail> {
             (Begin(9, 1), 12),
             (Begin(0, 1), 104),
         ],
-    );
+    )?;
     Ok(())
 }
 
 #[test]
 fn tickets_of_open_writes_only(rt: HostRuntime) -> Result<(), Fail> {
-    let mut cache = live(&rt, held(rt.alloc(), 11, &[])?)?;
+    let mut cache = live(held(rt.alloc(), 11, &[])?)?;
     play(
-        &rt,
         &mut cache,
         &[
             (Finish(0), 106),
@@ -71,16 +68,15 @@ fn tickets_of_open_writes_only(rt: HostRuntime) -> Result<(), Fail> {
             (Withdraw(3), 0),
             (Withdraw(3), 106),
         ],
-    );
+    )?;
     Ok(())
 }
 
 // An open write is not collected. A group under way is refused before an empty collection.
 #[test]
 fn one_group_at_a_time(rt: HostRuntime) -> Result<(), Fail> {
-    let mut cache = live(&rt, held(rt.alloc(), 10, &[])?)?;
+    let mut cache = live(held(rt.alloc(), 10, &[])?)?;
     play(
-        &rt,
         &mut cache,
         &[
             (Begin(0, 1), 1),
@@ -105,6 +101,6 @@ fn one_group_at_a_time(rt: HostRuntime) -> Result<(), Fail> {
             (Step, 0),
             (Seal, 2),
         ],
-    );
+    )?;
     Ok(())
 }

@@ -8,46 +8,38 @@ use std::test::Fail;
 // Of eleven blocks the head lies at place 2, the first slot at 3.
 #[test]
 fn the_call_is_made_again(rt: HostRuntime) -> Result<(), Fail> {
-    let mut cache = live(&rt, held(rt.alloc(), 11, &[0, 0, 0, 0, 1, 0, 1])?)?;
-    play(
-        &rt,
-        &mut cache,
-        &[(Begin(1, 5), 1), (Finish(1), 2), (Seal, 1)],
-    );
+    let mut cache = live(held(rt.alloc(), 11, &[0, 0, 0, 0, 1, 0, 1])?)?;
+    play(&mut cache, &[(Begin(1, 5), 1), (Finish(1), 2), (Seal, 1)])?;
     let write = Fault {
         kind: Kind::Write,
         place: 3,
         tries: 1,
     };
     assert_eq!(rt; step_fault(&mut cache), Some(write));
-    play(&rt, &mut cache, &[(Step, 1)]);
+    play(&mut cache, &[(Step, 1)])?;
     let flush = Fault {
         kind: Kind::Flush,
         place: 0,
         tries: 1,
     };
     assert_eq!(rt; step_fault(&mut cache), Some(flush));
-    busy(&rt, &mut cache, 7);
-    play(&rt, &mut cache, &[(Step, 0), (Read(1), 5)]);
+    busy(&mut cache, 7)?;
+    play(&mut cache, &[(Step, 0), (Read(1), 5)])?;
     Ok(())
 }
 
 #[test]
 fn two_retry_layers_below(rt: HostRuntime) -> Result<(), Fail> {
     let plan = [0, 0, 0, 0, 1, 1, 1, 1, 1, 1, 1, 1, 1];
-    let mut cache = live(&rt, Retry::new(Retry::new(held(rt.alloc(), 11, &plan)?)))?;
-    play(
-        &rt,
-        &mut cache,
-        &[(Begin(1, 5), 1), (Finish(1), 2), (Seal, 1)],
-    );
+    let mut cache = live(Retry::new(Retry::new(held(rt.alloc(), 11, &plan)?)))?;
+    play(&mut cache, &[(Begin(1, 5), 1), (Finish(1), 2), (Seal, 1)])?;
     let bad = Fault {
         kind: Kind::Write,
         place: 3,
         tries: 9,
     };
     assert_eq!(rt; step_fault(&mut cache), Some(bad));
-    busy(&rt, &mut cache, 8);
-    play(&rt, &mut cache, &[(Step, 0), (Read(1), 5)]);
+    busy(&mut cache, 8)?;
+    play(&mut cache, &[(Step, 0), (Read(1), 5)])?;
     Ok(())
 }

@@ -4,7 +4,6 @@ use crate::tools::{busy, held, live, play, recovered};
 use disk::disk::BenchDisk;
 use memdisk::through::ThroughDisk;
 use std::alloc::{AllocError, Global};
-use std::process::Abort;
 use std::test::Fail;
 
 // The steps of a group of two before a restart, and those that it takes after: from the first slot, the first home place, or the empty head.
@@ -22,10 +21,9 @@ const RESTARTS: [(u32, u32); 10] = [
 ];
 
 // The cut of the restart drops all that is loose, and so does the one at the end.
-fn restarted(rt: &impl Abort, heap: Global, before: u32, after: u32) -> Result<(), Fail> {
-    let mut cache = live(rt, held(heap, 11, &[])?)?;
+fn restarted(heap: Global, before: u32, after: u32) -> Result<(), Fail> {
+    let mut cache = live(held(heap, 11, &[])?)?;
     play(
-        rt,
         &mut cache,
         &[
             (Begin(0, 5), 1),
@@ -34,20 +32,20 @@ fn restarted(rt: &impl Abort, heap: Global, before: u32, after: u32) -> Result<(
             (Finish(2), 4),
             (Seal, 1),
         ],
-    );
-    busy(rt, &mut cache, before);
-    play(rt, &mut cache, &[(Restart(0), 0)]);
-    busy(rt, &mut cache, after);
-    play(rt, &mut cache, &[(Step, 0)]);
-    let mut cache = recovered(rt, cache.cut(0), 1)?;
-    play(rt, &mut cache, &[(Read(0), 5), (Read(1), 6)]);
+    )?;
+    busy(&mut cache, before)?;
+    play(&mut cache, &[(Restart(0), 0)])?;
+    busy(&mut cache, after)?;
+    play(&mut cache, &[(Step, 0)])?;
+    let mut cache = recovered(cache.cut(0), 1)?;
+    play(&mut cache, &[(Read(0), 5), (Read(1), 6)])?;
     Ok(())
 }
 
 #[test]
 fn a_restart_in_each_phase(rt: HostRuntime) -> Result<(), Fail> {
     for line in &RESTARTS {
-        restarted(&rt, rt.alloc(), line.0, line.1)?;
+        restarted(rt.alloc(), line.0, line.1)?;
     }
     Ok(())
 }
@@ -61,17 +59,12 @@ const CUTS: [(u32, u8, u32, u32, u32); 5] = [
     (8, 0, 1, 5, 2),
 ];
 
-fn numbered(rt: &impl Abort, heap: Global, line: (u32, u8, u32, u32, u32)) -> Result<(), Fail> {
-    let mut cache = live(rt, held(heap, 10, &[])?)?;
+fn numbered(heap: Global, line: (u32, u8, u32, u32, u32)) -> Result<(), Fail> {
+    let mut cache = live(held(heap, 10, &[])?)?;
+    play(&mut cache, &[(Begin(0, 5), 1), (Finish(1), 2), (Seal, 1)])?;
+    busy(&mut cache, line.0)?;
+    let mut cache = recovered(cache.cut(line.1), line.2)?;
     play(
-        rt,
-        &mut cache,
-        &[(Begin(0, 5), 1), (Finish(1), 2), (Seal, 1)],
-    );
-    busy(rt, &mut cache, line.0);
-    let mut cache = recovered(rt, cache.cut(line.1), line.2)?;
-    play(
-        rt,
         &mut cache,
         &[
             (Read(0), line.3),
@@ -79,14 +72,14 @@ fn numbered(rt: &impl Abort, heap: Global, line: (u32, u8, u32, u32, u32)) -> Re
             (Finish(1), 2),
             (Seal, line.4),
         ],
-    );
+    )?;
     Ok(())
 }
 
 #[test]
 fn a_lost_sealing_gives_its_number_back(rt: HostRuntime) -> Result<(), Fail> {
     for line in &CUTS {
-        numbered(&rt, rt.alloc(), *line)?;
+        numbered(rt.alloc(), *line)?;
     }
     Ok(())
 }
@@ -98,14 +91,10 @@ fn a_settled_head_outlives_the_cut(rt: HostRuntime) -> Result<(), Fail> {
     let Ok(disk) = ThroughDisk::new(memory, Vec::new(rt.alloc())) else {
         return Err(Fail::new("no through disk"));
     };
-    let mut cache = live(&rt, disk)?;
-    play(
-        &rt,
-        &mut cache,
-        &[(Begin(0, 5), 1), (Finish(1), 2), (Seal, 1)],
-    );
-    busy(&rt, &mut cache, 3);
-    let mut cache = recovered(&rt, cache.cut(0), 1)?;
-    play(&rt, &mut cache, &[(Read(0), 5)]);
+    let mut cache = live(disk)?;
+    play(&mut cache, &[(Begin(0, 5), 1), (Finish(1), 2), (Seal, 1)])?;
+    busy(&mut cache, 3)?;
+    let mut cache = recovered(cache.cut(0), 1)?;
+    play(&mut cache, &[(Read(0), 5)])?;
     Ok(())
 }

@@ -4,7 +4,6 @@ use crate::tools::{busy, live, play, recovered};
 use disk::disk::{BLOCK, BenchDisk};
 use mixed_disk::MixedDisk;
 use std::alloc::{AllocError, Global};
-use std::process::Abort;
 use std::test::Fail;
 
 // A cut with choice 0 drops what joined: the head is kept where its place, nine below the size, is odd.
@@ -42,14 +41,13 @@ const CUTS: [Cut; 4] = [
     },
 ];
 
-fn cut_after(rt: &impl Abort, heap: Global, cut: &Cut) -> Result<(), Fail> {
+fn cut_after(heap: Global, cut: &Cut) -> Result<(), Fail> {
     let memory = vec![in heap; 0; cut.blocks.saturating_mul(BLOCK)]?;
     let Ok(disk) = MixedDisk::new(heap, memory) else {
         return Err(Fail::new("no mixed disk"));
     };
-    let mut cache = live(rt, disk)?;
+    let mut cache = live(disk)?;
     play(
-        rt,
         &mut cache,
         &[
             (Begin(0, 5), 1),
@@ -58,21 +56,20 @@ fn cut_after(rt: &impl Abort, heap: Global, cut: &Cut) -> Result<(), Fail> {
             (Finish(2), 4),
             (Seal, 1),
         ],
-    );
-    busy(rt, &mut cache, cut.steps);
-    let mut cache = recovered(rt, cache.cut(0), cut.number)?;
+    )?;
+    busy(&mut cache, cut.steps)?;
+    let mut cache = recovered(cache.cut(0), cut.number)?;
     play(
-        rt,
         &mut cache,
         &[(Read(0), cut.shown[0]), (Read(1), cut.shown[1])],
-    );
+    )?;
     Ok(())
 }
 
 #[test]
 fn a_group_over_a_mixed_rule(rt: HostRuntime) -> Result<(), Fail> {
     for cut in &CUTS {
-        cut_after(&rt, rt.alloc(), cut)?;
+        cut_after(rt.alloc(), cut)?;
     }
     Ok(())
 }

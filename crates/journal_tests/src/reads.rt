@@ -8,9 +8,8 @@ use std::test::Fail;
 
 #[test]
 fn collected_then_sealed_then_disk(rt: HostRuntime) -> Result<(), Fail> {
-    let mut cache = live(&rt, held(rt.alloc(), 11, &[])?)?;
+    let mut cache = live(held(rt.alloc(), 11, &[])?)?;
     play(
-        &rt,
         &mut cache,
         &[
             (Begin(1, 5), 1),
@@ -25,18 +24,18 @@ fn collected_then_sealed_then_disk(rt: HostRuntime) -> Result<(), Fail> {
             (Read(1), 6),
             (Read(0), 0),
         ],
-    );
-    busy(&rt, &mut cache, 8);
-    play(&rt, &mut cache, &[(Step, 0), (Read(1), 6)]);
-    let mut cache = recovered(&rt, cache.cut(0), 1)?;
-    play(&rt, &mut cache, &[(Read(1), 5)]);
+    )?;
+    busy(&mut cache, 8)?;
+    play(&mut cache, &[(Step, 0), (Read(1), 6)])?;
+    let mut cache = recovered(cache.cut(0), 1)?;
+    play(&mut cache, &[(Read(1), 5)])?;
     Ok(())
 }
 
 // Of eleven blocks only the home places are shown.
 #[test]
 fn a_refused_read_leaves_the_buffer(rt: HostRuntime) -> Result<(), Fail> {
-    let mut cache = live(&rt, held(rt.alloc(), 11, &[0, 0, 0, 0, 1])?)?;
+    let mut cache = live(held(rt.alloc(), 11, &[0, 0, 0, 0, 1])?)?;
     let mut short = [7; SHORT];
     assert!(rt; cache.read(2, &mut short) == Err(CacheError::Length));
     assert_eq!(rt; short[0], 7);

@@ -1,10 +1,9 @@
 // Formats and recoveries, refused and broken off.
 use crate::tools::Ask::*;
-use crate::tools::{busy, format, held, live, play, recover, recovered};
+use crate::tools::{busy, check, check_eq, format, held, live, play, recover, recovered};
 use disk::disk::{BLOCK, BenchDisk, Disk};
 use journal_volume::cold::Cold;
 use std::alloc::Global;
-use std::process::Abort;
 use std::test::Fail;
 
 // A format does not make the volume accepted.
@@ -45,10 +44,9 @@ const ENTRIES: usize = 18;
 
 const COMMITTED: usize = 9;
 
-fn broken_off(rt: &impl Abort, heap: Global, plan: &[u8]) -> Result<(), Fail> {
-    let mut cache = live(rt, held(heap, 11, plan)?)?;
+fn broken_off(heap: Global, plan: &[u8]) -> Result<(), Fail> {
+    let mut cache = live(held(heap, 11, plan)?)?;
     play(
-        rt,
         &mut cache,
         &[
             (Begin(0, 5), 1),
@@ -57,13 +55,13 @@ fn broken_off(rt: &impl Abort, heap: Global, plan: &[u8]) -> Result<(), Fail> {
             (Finish(2), 4),
             (Seal, 1),
         ],
-    );
-    busy(rt, &mut cache, 5);
+    )?;
+    busy(&mut cache, 5)?;
     let mut cold = cache.cut(0);
-    assert_eq!(rt; recover(&mut cold), 107);
-    assert!(rt; !cold.is_accepted());
-    let mut cache = recovered(rt, cold, 1)?;
-    play(rt, &mut cache, &[(Read(0), 5), (Read(1), 6), (Step, 0)]);
+    check_eq(recover(&mut cold), 107)?;
+    check(!cold.is_accepted())?;
+    let mut cache = recovered(cold, 1)?;
+    play(&mut cache, &[(Read(0), 5), (Read(1), 6), (Step, 0)])?;
     Ok(())
 }
 
@@ -72,7 +70,7 @@ fn broken_off_at_each_call_then_completed(rt: HostRuntime) -> Result<(), Fail> {
     for call in COMMITTED..ENTRIES {
         let mut plan = [0; ENTRIES];
         plan[call] = 1;
-        broken_off(&rt, rt.alloc(), &plan)?;
+        broken_off(rt.alloc(), &plan)?;
     }
     Ok(())
 }
@@ -88,11 +86,10 @@ fn the_last_number_seals_no_more(rt: HostRuntime) -> Result<(), Fail> {
     head[4] = 255;
     let mut disk = held(rt.alloc(), 10, &[])?;
     disk.write(1, &head)?;
-    let mut cache = recovered(&rt, Cold::new(disk), 4_294_967_295)?;
+    let mut cache = recovered(Cold::new(disk), 4_294_967_295)?;
     play(
-        &rt,
         &mut cache,
         &[(Seal, 108), (Begin(0, 5), 1), (Finish(1), 2), (Seal, 110)],
-    );
+    )?;
     Ok(())
 }

@@ -5,7 +5,6 @@ use journal::live::Live;
 use journal_volume::cold::Cold;
 use memdisk::held::HeldDisk;
 use std::alloc::{AllocError, Global};
-use std::process::Abort;
 use std::test::Fail;
 
 pub(crate) const SHORT: usize = 511;
@@ -35,15 +34,32 @@ pub(crate) fn recover<D: BenchDisk>(cold: &mut Cold<D>) -> u32 {
     }
 }
 
+// A check that a helper makes: where it does not hold, the test ends there.
+pub(crate) fn check(holds: bool) -> Result<(), Fail> {
+    if holds {
+        Ok(())
+    } else {
+        Err(Fail::new("a check does not hold"))
+    }
+}
+
+// The same of two numbers, which the failure names.
+pub(crate) fn check_eq(found: u32, expected: u32) -> Result<(), Fail> {
+    if found == expected {
+        Ok(())
+    } else {
+        Err(Fail::new(format_args!("{found} in place of {expected}")))
+    }
+}
+
 // A cache over the volume, which has to recover this number.
 pub(crate) fn recovered<D: BenchDisk + Drop>(
-    rt: &impl Abort,
     mut cold: Cold<D>,
     number: u32,
 ) -> Result<Live<D>, Fail> {
     match cold.recover() {
         Ok(found) => {
-            assert_eq!(rt; found, number);
+            check_eq(found, number)?;
             Ok(Live::new(cold))
         }
         Err(_) => Err(Fail::new("not recovered")),
@@ -51,10 +67,10 @@ pub(crate) fn recovered<D: BenchDisk + Drop>(
 }
 
 // A cache over the disk, formatted and recovered: four calls of the disk.
-pub(crate) fn live<D: BenchDisk + Drop>(rt: &impl Abort, disk: D) -> Result<Live<D>, Fail> {
+pub(crate) fn live<D: BenchDisk + Drop>(disk: D) -> Result<Live<D>, Fail> {
     let mut cold = Cold::new(disk);
-    assert_eq!(rt; format(&mut cold), 0);
-    recovered(rt, cold, 0)
+    check_eq(format(&mut cold), 0)?;
+    recovered(cold, 0)
 }
 
 // A call of the cache, as the lines of a test name it.
@@ -117,18 +133,20 @@ fn answer<D: BenchDisk>(cache: &mut Live<D>, call: Ask) -> u32 {
 }
 
 // Makes the calls in turn, and holds each to its answer.
-pub(crate) fn play<D: BenchDisk>(rt: &impl Abort, cache: &mut Live<D>, lines: &[(Ask, u32)]) {
+pub(crate) fn play<D: BenchDisk>(cache: &mut Live<D>, lines: &[(Ask, u32)]) -> Result<(), Fail> {
     for line in lines {
-        assert_eq!(rt; answer(cache, line.0), line.1);
+        check_eq(answer(cache, line.0), line.1)?;
     }
+    Ok(())
 }
 
 // Makes steps, none of them idle.
-pub(crate) fn busy<D: BenchDisk>(rt: &impl Abort, cache: &mut Live<D>, steps: u32) {
+pub(crate) fn busy<D: BenchDisk>(cache: &mut Live<D>, steps: u32) -> Result<(), Fail> {
     for _ in 0..steps {
         let done = answer(cache, Ask::Step);
-        assert!(rt; done == 1 || done == 2);
+        check(done == 1 || done == 2)?;
     }
+    Ok(())
 }
 
 // The fault that a refusal during this call hands up.

@@ -8,7 +8,6 @@ use std::test::Fail;
 fn length_then_place_then_open(rt: HostRuntime) -> Result<(), Fail> {
     let mut cache = live(held(rt.alloc(), 2, &[])?, Overlap)?;
     play(
-        &rt,
         &mut cache,
         &[
             (BeginShort(2), 101),
@@ -18,7 +17,7 @@ fn length_then_place_then_open(rt: HostRuntime) -> Result<(), Fail> {
             (Finish(1), 2),
             (Begin(1, 2), 3),
         ],
-    );
+    )?;
     Ok(())
 }
 
@@ -30,7 +29,6 @@ fn thirty_two_writes_and_no_more(rt: HostRuntime) -> Result<(), Fail> {
         assert!(rt; cache.begin(place, &[1; 512]).is_ok());
     }
     play(
-        &rt,
         &mut cache,
         &[
             (Begin(0, 1), 103),
@@ -40,7 +38,7 @@ fn thirty_two_writes_and_no_more(rt: HostRuntime) -> Result<(), Fail> {
             (Withdraw(8), 0),
             (Begin(32, 1), 34),
         ],
-    );
+    )?;
     Ok(())
 }
 
@@ -48,7 +46,6 @@ fn thirty_two_writes_and_no_more(rt: HostRuntime) -> Result<(), Fail> {
 fn tickets_of_open_writes_only(rt: HostRuntime) -> Result<(), Fail> {
     let mut cache = live(held(rt.alloc(), 2, &[])?, Overlap)?;
     play(
-        &rt,
         &mut cache,
         &[
             (Finish(0), 106),
@@ -61,6 +58,6 @@ fn tickets_of_open_writes_only(rt: HostRuntime) -> Result<(), Fail> {
             (Withdraw(3), 0),
             (Withdraw(3), 106),
         ],
-    );
+    )?;
     Ok(())
 }

@@ -5,7 +5,6 @@ use disk::disk::BenchDisk;
 use ordered::cold::Cold;
 use precedence::Overlap;
 use std::alloc::Global;
-use std::process::Abort;
 use std::test::Fail;
 
 #[test]
@@ -20,10 +19,9 @@ fn a_faulty_opening_leaves_the_volume_cold(rt: HostRuntime) -> Result<(), Fail> 
 }
 
 // The write at place 0 is home, those at 1 and 2 are loose.
-fn cut_by(rt: &impl Abort, heap: Global, choice: u8, first: u32, second: u32) -> Result<(), Fail> {
+fn cut_by(heap: Global, choice: u8, first: u32, second: u32) -> Result<(), Fail> {
     let mut cache = live(held(heap, 3, &[])?, Overlap)?;
     play(
-        rt,
         &mut cache,
         &[
             (Begin(0, 1), 1),
@@ -37,14 +35,13 @@ fn cut_by(rt: &impl Abort, heap: Global, choice: u8, first: u32, second: u32) ->
             (Step, 1),
             (Step, 1),
         ],
-    );
+    )?;
     let mut cold = cache.cut(choice);
     if cold.open().is_err() || !cold.is_accepted() {
         return Err(Fail::new("not opened"));
     }
     let mut cache = cold.into_live(Overlap);
     play(
-        rt,
         &mut cache,
         &[
             (Read(0), 1),
@@ -52,14 +49,14 @@ fn cut_by(rt: &impl Abort, heap: Global, choice: u8, first: u32, second: u32) ->
             (Read(2), second),
             (Begin(1, 9), 1),
         ],
-    );
+    )?;
     Ok(())
 }
 
 #[test]
 fn home_writes_outlive_every_cut(rt: HostRuntime) -> Result<(), Fail> {
-    cut_by(&rt, rt.alloc(), 0, 0, 0)?;
-    cut_by(&rt, rt.alloc(), 1, 2, 0)?;
-    cut_by(&rt, rt.alloc(), 2, 0, 3)?;
-    cut_by(&rt, rt.alloc(), 3, 2, 3)
+    cut_by(rt.alloc(), 0, 0, 0)?;
+    cut_by(rt.alloc(), 1, 2, 0)?;
+    cut_by(rt.alloc(), 2, 0, 3)?;
+    cut_by(rt.alloc(), 3, 2, 3)
 }

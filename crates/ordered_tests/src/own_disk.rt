@@ -10,7 +10,6 @@ use std::test::Fail;
 fn all_come_home_after_a_restart(rt: HostRuntime) -> Result<(), Fail> {
     let mut cache = live(Mixed::new(), Overlap)?;
     play(
-        &rt,
         &mut cache,
         &[
             (Begin(0, 5), 1),
@@ -25,7 +24,7 @@ fn all_come_home_after_a_restart(rt: HostRuntime) -> Result<(), Fail> {
             (Step, 2),
             (Home, 2),
         ],
-    );
+    )?;
     Ok(())
 }
 
@@ -34,7 +33,6 @@ fn all_come_home_after_a_restart(rt: HostRuntime) -> Result<(), Fail> {
 fn a_cut_between_the_two(rt: HostRuntime) -> Result<(), Fail> {
     let mut cache = live(Mixed::new(), Overlap)?;
     play(
-        &rt,
         &mut cache,
         &[
             (Begin(0, 5), 1),
@@ -44,12 +42,12 @@ fn a_cut_between_the_two(rt: HostRuntime) -> Result<(), Fail> {
             (Step, 1),
             (Step, 1),
         ],
-    );
+    )?;
     let mut cold = cache.cut(0);
     if cold.open().is_err() || !cold.is_accepted() {
         return Err(Fail::new("not opened"));
     }
     let mut cache = cold.into_live(Overlap);
-    play(&rt, &mut cache, &[(Read(0), 5), (Read(1), 6)]);
+    play(&mut cache, &[(Read(0), 5), (Read(1), 6)])?;
     Ok(())
 }

@@ -11,7 +11,6 @@ use std::test::Fail;
 fn open_writes_are_not_shown(rt: HostRuntime) -> Result<(), Fail> {
     let mut cache = live(held(rt.alloc(), 2, &[])?, Overlap)?;
     play(
-        &rt,
         &mut cache,
         &[
             (Begin(1, 5), 1),
@@ -23,7 +22,7 @@ fn open_writes_are_not_shown(rt: HostRuntime) -> Result<(), Fail> {
             (Finish(3), 4),
             (Read(1), 6),
         ],
-    );
+    )?;
     Ok(())
 }
 

@@ -10,7 +10,6 @@ use std::test::Fail;
 fn two_versions_of_a_place_come_home_one_by_one(rt: HostRuntime) -> Result<(), Fail> {
     let mut cache = live(held(rt.alloc(), 2, &[])?, Overlap)?;
     play(
-        &rt,
         &mut cache,
         &[
             (Step, 0),
@@ -25,7 +24,7 @@ fn two_versions_of_a_place_come_home_one_by_one(rt: HostRuntime) -> Result<(), F
             (Step, 2),
             (Step, 0),
         ],
-    );
+    )?;
     Ok(())
 }
 
@@ -33,7 +32,6 @@ fn two_versions_of_a_place_come_home_one_by_one(rt: HostRuntime) -> Result<(), F
 fn by_line_an_open_write_blocks(rt: HostRuntime) -> Result<(), Fail> {
     let mut cache = live(held(rt.alloc(), 2, &[])?, Line)?;
     play(
-        &rt,
         &mut cache,
         &[
             (Begin(0, 1), 1),
@@ -45,7 +43,7 @@ fn by_line_an_open_write_blocks(rt: HostRuntime) -> Result<(), Fail> {
             (Step, 2),
             (Step, 1),
         ],
-    );
+    )?;
     Ok(())
 }
 
@@ -53,25 +51,21 @@ fn by_line_an_open_write_blocks(rt: HostRuntime) -> Result<(), Fail> {
 #[test]
 fn a_fault_leaves_the_table(rt: HostRuntime) -> Result<(), Fail> {
     let mut cache = live(held(rt.alloc(), 2, &[0, 1, 0, 1])?, Overlap)?;
-    play(&rt, &mut cache, &[(Begin(1, 1), 1), (Finish(1), 2)]);
+    play(&mut cache, &[(Begin(1, 1), 1), (Finish(1), 2)])?;
     let write = Fault {
         kind: Kind::Write,
         place: 1,
         tries: 1,
     };
     assert_eq!(rt; step_fault(&mut cache), Some(write));
-    play(&rt, &mut cache, &[(Waiting, 1), (Step, 1)]);
+    play(&mut cache, &[(Waiting, 1), (Step, 1)])?;
     let flush = Fault {
         kind: Kind::Flush,
         place: 0,
         tries: 1,
     };
     assert_eq!(rt; step_fault(&mut cache), Some(flush));
-    play(
-        &rt,
-        &mut cache,
-        &[(Sent, 1), (Home, 0), (Step, 2), (Home, 1)],
-    );
+    play(&mut cache, &[(Sent, 1), (Home, 0), (Step, 2), (Home, 1)])?;
     Ok(())
 }
 
@@ -79,7 +73,6 @@ fn a_fault_leaves_the_table(rt: HostRuntime) -> Result<(), Fail> {
 fn after_a_restart_sent_writes_wait(rt: HostRuntime) -> Result<(), Fail> {
     let mut cache = live(held(rt.alloc(), 4, &[])?, Overlap)?;
     play(
-        &rt,
         &mut cache,
         &[
             (Begin(0, 1), 1),
@@ -93,7 +86,7 @@ fn after_a_restart_sent_writes_wait(rt: HostRuntime) -> Result<(), Fail> {
             (Sent, 1),
             (Restart(255), 0),
         ],
-    );
+    )?;
     let tally = cache.tally();
     assert_eq!(rt; tally.begun, 4);
     assert_eq!(rt; tally.withdrawn, 1);
@@ -108,13 +101,13 @@ fn after_a_restart_sent_writes_wait(rt: HostRuntime) -> Result<(), Fail> {
 fn two_retry_layers_below(rt: HostRuntime) -> Result<(), Fail> {
     let plan = [0, 1, 1, 1, 1, 1, 1, 1, 1, 1];
     let mut cache = live(Retry::new(Retry::new(held(rt.alloc(), 2, &plan)?)), Overlap)?;
-    play(&rt, &mut cache, &[(Begin(1, 1), 1), (Finish(1), 2)]);
+    play(&mut cache, &[(Begin(1, 1), 1), (Finish(1), 2)])?;
     let bad = Fault {
         kind: Kind::Write,
         place: 1,
         tries: 9,
     };
     assert_eq!(rt; step_fault(&mut cache), Some(bad));
-    play(&rt, &mut cache, &[(Step, 1)]);
+    play(&mut cache, &[(Step, 1)])?;
     Ok(())
 }

@@ -6,7 +6,6 @@ use ordered::cold::Cold;
 use ordered::live::Live;
 use precedence::Precedence;
 use std::alloc::{AllocError, Global};
-use std::process::Abort;
 use std::test::Fail;
 
 pub(crate) const SHORT: usize = 511;
@@ -102,15 +101,24 @@ fn answer<D: BenchDisk, P: Precedence>(cache: &mut Live<D, P>, call: Ask) -> u32
     }
 }
 
+// Holds a number to the one that is expected; the failure names both.
+fn check_eq(found: u32, expected: u32) -> Result<(), Fail> {
+    if found == expected {
+        Ok(())
+    } else {
+        Err(Fail::new(format_args!("{found} in place of {expected}")))
+    }
+}
+
 // Makes the calls in turn, and holds each to its answer.
 pub(crate) fn play<D: BenchDisk, P: Precedence>(
-    rt: &impl Abort,
     cache: &mut Live<D, P>,
     lines: &[(Ask, u32)],
-) {
+) -> Result<(), Fail> {
     for line in lines {
-        assert_eq!(rt; answer(cache, line.0), line.1);
+        check_eq(answer(cache, line.0), line.1)?;
     }
+    Ok(())
 }
 
 // The fault that a refusal during this call hands up.

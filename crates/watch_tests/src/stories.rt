@@ -1,7 +1,7 @@
 use narration::told::Told;
 use play::play::play_list;
 use precedence::{Line, Overlap};
-use std::process::Abort;
+use std::alloc::Global;
 use std::test::Fail;
 use trace::call::TraceCall::{Begin, Cut, Finish, Restart, Seal, Step, Withdraw};
 use trace::call::{Mode, TraceCall};
@@ -11,14 +11,16 @@ use watch::watch::{Watch, deed_of};
 
 // Plays the calls, and holds each told line to the one that is expected.
 fn tells<W: Watch + Drop>(
-    rt: &(impl Abort + AllocGlobal),
+    heap: Global,
     mode: Mode,
     mut watch: W,
     calls: &[TraceCall],
     story: &[&str],
 ) -> Result<(), Fail> {
-    let lines = play_list(rt.alloc(), mode, calls)?;
-    assert_eq!(rt; lines.len(), story.len());
+    let lines = play_list(heap, mode, calls)?;
+    if lines.len() != story.len() {
+        return Err(Fail::new("a line for each call"));
+    }
     for ((call, line), expected) in calls.iter().zip(lines.iter()).zip(story.iter()) {
         let told = Told {
             mode,
@@ -26,8 +28,10 @@ fn tells<W: Watch + Drop>(
             line: *line,
             deed: deed_of(&mut watch, *call, *line),
         };
-        let text = format!(in rt.alloc(); "{told}")?;
-        assert_eq!(rt; text.as_str(), *expected);
+        let text = format!(in heap; "{told}")?;
+        if text.as_str() != *expected {
+            return Err(Fail::new(text));
+        }
     }
     Ok(())
 }
@@ -61,7 +65,7 @@ fn overlapping_writes(rt: HostRuntime) -> Result<(), Fail> {
         "step: idle",
     ];
     tells(
-        &rt,
+        rt.alloc(),
         Mode::Overlap,
         OrderedWatch::new(Overlap),
         &TWO_WRITES,
@@ -85,7 +89,7 @@ fn writes_in_line(rt: HostRuntime) -> Result<(), Fail> {
         "step: flushed",
     ];
     tells(
-        &rt,
+        rt.alloc(),
         Mode::Line,
         OrderedWatch::new(Line),
         &TWO_WRITES,
@@ -116,7 +120,13 @@ fn a_blocked_line(rt: HostRuntime) -> Result<(), Fail> {
         "cut, choice 0: opened again",
         "step: idle",
     ];
-    tells(&rt, Mode::Line, OrderedWatch::new(Line), &calls, &story)
+    tells(
+        rt.alloc(),
+        Mode::Line,
+        OrderedWatch::new(Line),
+        &calls,
+        &story,
+    )
 }
 
 // A group of two blocks goes through all its phases.
@@ -158,5 +168,11 @@ fn a_group(rt: HostRuntime) -> Result<(), Fail> {
         "step: flushed",
         "step: idle",
     ];
-    tells(&rt, Mode::Journaled, JournalWatch::new(), &calls, &story)
+    tells(
+        rt.alloc(),
+        Mode::Journaled,
+        JournalWatch::new(),
+        &calls,
+        &story,
+    )
 }
