@@ -16,8 +16,8 @@ all_fitting n [] f = tt
 all_fitting n (w ∷ ws) f = (f 0 (omega arith), all_fitting n ws (λ k h. f (suc k) (omega arith)))
 
 -- some writes are loose
-pub held_sound : (b : Blocks) (l : LooseWrites) (p : Plan) → EachFits b.count (held_in l) → Sound (medium_of b (held_in l) p)
-held_sound b l p fits =
+pub parts_sound : (b : Blocks) (l : LooseWrites) (p : Plan) → EachFits b.count (held_in l) → Sound (medium_of b (held_in l) p)
+parts_sound b l p fits =
     let ws = held_in l in
     let long = length_blocks b.count (vec_items b.memory) in
     record {

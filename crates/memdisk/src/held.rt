@@ -2,7 +2,7 @@ ghost use Rattle.std.specs.Prelude.{◌≡◌, true, false, MatchResult};
 ghost use Rattle.disk.specs.Medium.{join};
 ghost use Rattle.memdisk.specs.Making.{usable, fresh, Holds};
 ghost use Rattle.memdisk.specs.Parts.{medium_of, held_in, EachFits};
-ghost use Rattle.memdisk.specs.Soundness.{held_sound};
+ghost use Rattle.memdisk.specs.Soundness.{parts_sound};
 
 use crate::blocks::Blocks;
 use crate::laying::{lay_all, lay_standing, load_current};
@@ -55,7 +55,7 @@ impl Disk for HeldDisk {
 
     ghost rule = { λ _ _. join };
 
-    ghost sound = { λ d. held_sound d.blocks d.loose d.plan d.fitting };
+    ghost sound = { λ d. parts_sound d.blocks d.loose d.plan d.fitting };
 
     fn tries() -> u32 {
         1

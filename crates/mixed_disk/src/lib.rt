@@ -4,7 +4,7 @@
 ghost use Rattle.std.specs.Prelude.{◌≡◌, true, false, [], length, MatchResult};
 ghost use Rattle.memdisk.specs.Making.{usable, fresh};
 ghost use Rattle.memdisk.specs.Parts.{medium_of, held_in, plan_of};
-ghost use Rattle.memdisk.specs.Soundness.{held_sound};
+ghost use Rattle.memdisk.specs.Soundness.{parts_sound};
 ghost use Rattle.mixed_disk.specs.Mixing.{by_place};
 
 use disk::disk::{BenchDisk, Disk};
@@ -36,7 +36,7 @@ impl Disk for MixedDisk {
 
     ghost rule = { λ _ w. by_place w.place };
 
-    ghost sound = { λ d. held_sound d.held.blocks d.held.loose d.held.plan d.held.fitting };
+    ghost sound = { λ d. parts_sound d.held.blocks d.held.loose d.held.plan d.held.fitting };
 
     fn tries() -> u32 {
         1
