@@ -14,7 +14,7 @@ use Rattle.memdisk.specs.Admission.{Admits}
 use Rattle.memdisk.specs.Parts.{blocks_of, medium_of, as_write, writes_of}
 use Rattle.memdisk.specs.Memory.{blocks_in}
 use Rattle.memdisk.specs.Making.{Holds}
-use Rattle.memdisk.specs.Chunks.{length_blocks}
+use Rattle.memdisk.specs.Soundness.{length_blocks}
 
 never : {A : Type 0} {x : Answer} {e : DiskError} → x ≡ Err e → x ≡ Ok tt → A
 never p q = let z : ◌≡◌ {A = ℕ} 0 1 = cc in absurd (omega arith)

@@ -1,3 +1,4 @@
 pub mod Fates
 pub mod Lays
 pub mod Soundness
+pub mod Chunks

@@ -2,5 +2,4 @@ pub mod Memory
 pub mod Admission
 pub mod Making
 pub mod Parts
-pub mod Chunks
 pub mod Soundness

@@ -1,14 +1,25 @@
 -- What holds of the medium of every disk in memory.
-use Rattle.std.proofs.Common.{ℕ, suc, List, [], ◌∷◌, vec_items, sym, subst, arith}
+use Rattle.std.proofs.Common.{◌≡◌, ℕ, zero, suc, ◌*◌, List, [], ◌∷◌, length, drop, vec_items, refl, sym, ap, subst, arith}
 use Rattle.std.specs.List.{AllByRecursion}
-use Rattle.std.proofs.lemmas.List.{length-map, length-take-le}
-use Rattle.disk.specs.Medium.{Sound, Fitting}
+use Rattle.std.proofs.lemmas.List.{length-map, length-take-le, length-drop}
+use Rattle.disk.specs.Medium.{Sound, Fitting, IsBlock}
 use Rattle.memdisk.specs.Parts.{as_write, writes_of, held_in, medium_of, EachFits}
-use Rattle.memdisk.specs.Chunks.{length_blocks, all_blocks}
+use Rattle.memdisk.specs.Memory.{blocks_in}
 use Rattle.memdisk.specs.declared.loose.LooseWrite.{LooseWrite}
 use Rattle.memdisk.specs.declared.blocks.Blocks.{Blocks}
 use Rattle.memdisk.specs.declared.loose.LooseWrites.{LooseWrites}
 use Rattle.memdisk.specs.declared.plan.Plan.{Plan}
+
+-- n blocks are n, each of 512 bytes
+pub length_blocks : (n : ℕ) (xs : List ℕ) → length (blocks_in n xs) ≡ n
+unfolding blocks_in
+length_blocks zero xs = refl
+length_blocks (suc n) xs = ap suc (length_blocks n (drop 512 xs))
+
+pub all_blocks : (n : ℕ) (xs : List ℕ) → length xs ≡ 512 * n → AllByRecursion IsBlock (blocks_in n xs)
+unfolding blocks_in
+all_blocks zero xs w = tt
+all_blocks (suc n) xs w = (length-take-le 512 xs (omega arith), all_blocks n (drop 512 xs) (simp length-drop (omega arith)))
 
 -- the writes of a disk each fit it
 pub all_fitting : (n : ℕ) (ws : List LooseWrite) → EachFits n ws → AllByRecursion (Fitting n) (writes_of ws)

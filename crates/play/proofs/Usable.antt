@@ -6,7 +6,7 @@ use Rattle.memdisk.specs.Memory as memory
 use Rattle.memdisk.specs.declared.held.HeldDisk.{HeldDisk}
 use Rattle.memdisk.specs.Parts.{medium_of, held_in}
 use Rattle.memdisk.specs.Making.{usable}
-use Rattle.memdisk.specs.Chunks.{length_blocks}
+use Rattle.memdisk.specs.Soundness.{length_blocks}
 use Rattle.disk.specs.Medium.{size}
 use Rattle.trace.specs.Format.{all_entries}
 use Rattle.play.specs.Plays.{blank_disk}

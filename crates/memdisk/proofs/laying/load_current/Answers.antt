@@ -2,7 +2,7 @@ use Rattle.std.proofs.Common.{◌≡◌, ◌<◌, [], length, get_or, take, vec_
 use Rattle.std.proofs.lemmas.List.{take_all}
 use Rattle.disk.specs.Medium.{lay}
 use Rattle.memdisk.specs.Parts.{blocks_of, writes_of}
-use Rattle.memdisk.specs.Chunks.{length_blocks}
+use Rattle.memdisk.specs.Soundness.{length_blocks}
 use Rattle.memdisk.proofs.Lays.{shown_here, shown_before}
 use Rattle.memdisk.proofs.laying.load_current.Goals as goal
 

@@ -1,5 +1,5 @@
 use Rattle.std.proofs.Common.{◌≡◌, ◌+◌, ◌-◌, ◌*◌, take, drop, vec_items, sym, ap, ◌∙◌, arith}
-use Rattle.memdisk.specs.Chunks.{get_d_blocks}
+use Rattle.memdisk.proofs.Chunks.{get_d_blocks}
 use Rattle.memdisk.proofs.blocks.Blocks.load.Goals as goal
 
 pub returns : goal.returns

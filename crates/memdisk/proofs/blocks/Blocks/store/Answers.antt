@@ -2,7 +2,7 @@ use Rattle.std.proofs.Common.{◌≡◌, ◌+◌, ◌-◌, ◌*◌, length, vec_
 use borrow.Rule.Slice.PartMut.{put_mid}
 use Rattle.std.proofs.lemmas.List.{with_items_is}
 use Rattle.memdisk.specs.Memory.{blocks_in}
-use Rattle.memdisk.specs.Chunks.{set_blocks, length_put_mid_block}
+use Rattle.memdisk.proofs.Chunks.{set_blocks, length_put_mid_block}
 use Rattle.memdisk.proofs.blocks.Blocks.store.Goals as goal
 
 pub returns : goal.returns

@@ -1,5 +1,5 @@
 use Rattle.std.proofs.Common.{vec_items, sym}
-use Rattle.memdisk.specs.Chunks.{length_blocks}
+use Rattle.memdisk.specs.Soundness.{length_blocks}
 use Rattle.memdisk.proofs.held.HeldDiskDisk.size.Goals as goal
 
 pub returns : goal.returns

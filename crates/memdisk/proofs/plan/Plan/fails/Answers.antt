@@ -2,7 +2,7 @@ use Rattle.std.proofs.Common.{◌<◌, length, vec_items, sym, ap, ◌∙◌, ar
 use Rattle.std.proofs.lemmas.List.{get_or_read}
 use Rattle.disk.specs.Medium.{due, later}
 use Rattle.memdisk.specs.Memory.{is_bad, entry}
-use Rattle.memdisk.specs.Chunks.{entries_none, entries_some, bad_not_good}
+use Rattle.memdisk.proofs.Chunks.{entries_none, entries_some, bad_not_good}
 use Rattle.memdisk.proofs.plan.Plan.fails.Goals as goal
 
 pub returns-then-at-len : goal.returns-then-at-len

@@ -2,17 +2,10 @@
 use Rattle.std.specs.Prelude.{◌≡◌, ℕ, zero, suc, ◌+◌, ◌*◌, ◌<◌, ◌≤◌, not, List, [], ◌∷◌, ◌++◌, map, length, take, drop, ◌==◌, slice_index, slice_index_or, slice_set, refl}
 use Rattle.std.proofs.Common.{sym, ap, ◌∙◌, arith}
 use borrow.Rule.Slice.PartMut.{put_mid}
-use Rattle.std.specs.List.{AllByRecursion}
-use Rattle.std.proofs.lemmas.List.{length-take, length-drop, length-take-le, take_at, drop_at, drop-drop, drop-append-le, drop-take, drop_more, drop_all, length-append}
+use Rattle.std.proofs.lemmas.List.{length-take, length-drop, take_at, drop_at, drop-drop, drop-append-le, drop-take, drop_more, drop_all, length-append}
 use Rattle.std.proofs.lemmas.Bool.Decides.{nat_tests}
 use Rattle.std.proofs.lemmas.Slice.{take-put_mid_below}
-use Rattle.disk.specs.Medium.{IsBlock}
 use Rattle.memdisk.specs.Memory.{blocks_in, entry, entries, is_bad}
-
-pub length_blocks : (n : ℕ) (xs : List ℕ) → length (blocks_in n xs) ≡ n
-unfolding blocks_in
-length_blocks zero xs = refl
-length_blocks (suc n) xs = ap suc (length_blocks n (drop 512 xs))
 
 -- the block of a place
 pub get_d_blocks : (n i : ℕ) (xs : List ℕ) → i < n → slice_index_or (blocks_in n xs) i [] ≡ take 512 (drop (i * 512) xs)
@@ -44,11 +37,6 @@ set_blocks (suc n) (suc i) xs b h e w =
     ap (λ y. y ∷ blocks_in n (drop 512 (put_mid (suc i * 512) 512 xs b))) (take-put_mid_below (suc i * 512) 512 xs b 512 (omega arith) (omega arith)) ∙
     ap (λ y. take 512 xs ∷ y) (ap (blocks_in n) moved ∙ sym (set_blocks n i (drop 512 xs) b (omega arith) e rest))
     )
-
-pub all_blocks : (n : ℕ) (xs : List ℕ) → length xs ≡ 512 * n → AllByRecursion IsBlock (blocks_in n xs)
-unfolding blocks_in
-all_blocks zero xs w = tt
-all_blocks (suc n) xs w = (length-take-le 512 xs (omega arith), all_blocks n (drop 512 xs) (simp length-drop (omega arith)))
 
 -- the plan past its end, and at an entry
 pub entries_none : (bytes : List ℕ) (taken : ℕ) → length bytes ≤ taken → entries bytes taken ≡ []
