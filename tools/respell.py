@@ -178,6 +178,15 @@ def aliases(text):
     return found
 
 
+def rewrite(paths, turn):
+    for path in list(paths):
+        text = read(path)
+        new = turn(path, text)
+        if new != text:
+            with open(path, "w", encoding="utf-8") as f:
+                f.write(new)
+
+
 def main():
     dry = "--dry" in sys.argv
     own, inner = declared()
@@ -206,26 +215,10 @@ def main():
     print(f"{len(renames)} names")
     if dry:
         return
-    for path in list(files(".antt")):
-        text = read(path)
-        new = turn_antt(path, text, renames, inner)
-        if new != text:
-            open(path, "w", encoding="utf-8").write(new)
-    for path in list(files(".rt")):
-        text = read(path)
-        new = turn_rt(text, renames)
-        if new != text:
-            open(path, "w", encoding="utf-8").write(new)
-    for path in list(files(".antt", ".rt")):
-        text = read(path)
-        new = by_own_word(path, text)
-        if new != text:
-            open(path, "w", encoding="utf-8").write(new)
-    for path in list(files(".edit")):
-        text = read(path)
-        new = turn_edit(text, renames)
-        if new != text:
-            open(path, "w", encoding="utf-8").write(new)
+    rewrite(files(".antt"), lambda path, text: turn_antt(path, text, renames, inner))
+    rewrite(files(".rt"), lambda path, text: turn_rt(text, renames))
+    rewrite(files(".antt", ".rt"), by_own_word)
+    rewrite(files(".edit"), lambda path, text: turn_edit(text, renames))
 
 
 main()
