@@ -1,10 +1,10 @@
-// Why a volume or a cache refuses. Each error holds the one of the layer below, so that a disk's fault comes up whole.
+// What volumes and caches answer: why they refuse, and what a step did. Each error holds the one of the layer below, so that a disk's fault comes up whole.
 #![tactic(auto)]
 
 ghost use Rattle.std.specs.Prelude.{◌≡◌};
-ghost use Rattle.errors.specs.Errors.{from_disk, raised, volume_number, cache_number};
+ghost use Rattle.errors.specs.Errors.{from_disk, raised, volume_number, cache_number, volume_fault, cache_fault, progress_number};
 
-use disk::error::DiskError;
+use disk::error::{DiskError, Fault};
 
 // Why a volume refuses.
 #[derive(Clone, Copy, PartialEq, Eq, Debug)]
@@ -33,6 +33,16 @@ impl VolumeError {
             VolumeError::Disk(error) => error.number(),
             VolumeError::NoHead => 11,
             VolumeError::TooSmall => 12,
+        }
+    }
+
+    // The fault of the disk, where the refusal is one.
+    pub fn fault(self) -> Option<Fault>
+        ensures { result ≡ volume_fault self }
+    {
+        match self {
+            VolumeError::Disk(DiskError::Fault(fault)) => Some(fault),
+            _ => None,
         }
     }
 }
@@ -86,6 +96,16 @@ impl CacheError {
             CacheError::Volume(_, error) => error.number(),
         }
     }
+
+    // The fault of the disk, where the refusal is one.
+    pub fn fault(self) -> Option<Fault>
+        ensures { result ≡ cache_fault self }
+    {
+        match self {
+            CacheError::Volume(_, error) => error.fault(),
+            _ => None,
+        }
+    }
 }
 
 // The disk's answer as the cache hands it up: a refusal comes with the call that was under way.
@@ -95,5 +115,26 @@ pub fn during(call: CacheCall, answer: Result<(), DiskError>) -> Result<(), Cach
     match answer {
         Ok(()) => Ok(()),
         Err(error) => Err(CacheError::Volume(call, error.into())),
+    }
+}
+
+// What a step of a live cache did.
+#[derive(Clone, Copy, PartialEq, Eq, Debug)]
+pub enum Progress {
+    // there was nothing to do
+    Idle = 0,
+    // one block was written to the disk
+    Written = 1,
+    // the disk was flushed
+    Flushed = 2,
+    // something waits, but an open write precedes it; a journaled cache never answers so
+    Blocked = 3,
+}
+
+impl Progress {
+    pub fn number(self) -> u8
+        ensures { result ≡ progress_number self }
+    {
+        self as u8
     }
 }

@@ -4,8 +4,7 @@ use Rattle.errors.specs.declared.CacheError.{CacheError}
 use Rattle.journal_law.specs.Cache as model
 use Rattle.group.specs.declared.phase.Phase.{Phase}
 use Rattle.group.specs.declared.phase.Phase.TheVariants.{Slot, SlotsFlush, Head, HeadFlush, Home, HomesFlush, Empty, EmptyFlush}
-use Rattle.group.specs.declared.turn.Progress.{Progress}
-use Rattle.group.specs.declared.turn.Progress.TheVariants as progress
+use Rattle.errors.specs.declared.Progress.TheVariants as progress
 use Rattle.group.specs.declared.turn.Turn.{Turn}
 
 abbrev pub phase_of : Phase → model.Phase
@@ -32,12 +31,6 @@ in_turn EmptyFlush blocks = nat_lt 0 blocks
 abbrev pub fitting : Option Phase → ℕ → Bool
 fitting None blocks = true
 fitting (Some p) blocks = in_turn p blocks
-
--- the number of each answer of a step
-abbrev pub progress_number : Progress → ℕ
-progress_number progress.Idle = 0
-progress_number progress.Written = 1
-progress_number progress.Flushed = 2
 
 abbrev pub wrote_to : Phase → Result Turn CacheError
 wrote_to p = Ok (record { phase = Some p; progress = progress.Written })

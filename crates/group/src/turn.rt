@@ -1,28 +1,8 @@
 ghost use Rattle.std.specs.Prelude.{◌≡◌, true};
-ghost use Rattle.group.specs.Phases.{progress_number, in_turn, wrote_to, flushed_to, advanced};
+ghost use Rattle.group.specs.Phases.{in_turn, wrote_to, flushed_to, advanced};
 
 use crate::phase::Phase;
-use errors::CacheError;
-
-// What a step did.
-#[derive(Clone, Copy, PartialEq, Eq, Debug)]
-pub enum Progress {
-    Idle,
-    Written,
-    Flushed,
-}
-
-impl Progress {
-    pub fn number(self) -> u8
-        ensures { result ≡ progress_number self }
-    {
-        match self {
-            Progress::Idle => 0,
-            Progress::Written => 1,
-            Progress::Flushed => 2,
-        }
-    }
-}
+use errors::{CacheError, Progress};
 
 // Where the group stands after a good call; no phase is left when it leaves the cache.
 #[derive(Clone, Copy)]

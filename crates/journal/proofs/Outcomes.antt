@@ -25,7 +25,8 @@ use Rattle.group.specs.declared.phase.Phase.{Phase}
 use Rattle.group.specs.declared.phase.Phase.TheVariants as phase
 use Rattle.group.specs.declared.group.Group.{Group as CodeGroup}
 use Rattle.group.specs.declared.turn.Turn.{Turn}
-use Rattle.group.specs.Phases.{phase_of, progress_number, wrote_to, next, advanced}
+use Rattle.errors.specs.Errors.{progress_number}
+use Rattle.group.specs.Phases.{phase_of, wrote_to, next, advanced}
 use Rattle.group.specs.Groups.{group_of, under_way, Makes}
 use Rattle.journal.specs.Model.{read_as, filled}
 use Rattle.journal.proofs.Rooms.{without_none}

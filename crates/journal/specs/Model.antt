@@ -6,8 +6,8 @@ use Rattle.journal_law.specs.Device.{Device}
 use Rattle.journal_law.specs.Cache as cache
 use Rattle.journal_law.specs.Cache.{Answer, accepted, shown, refused, Call, Outcome, outcome, step_asks}
 use Rattle.batch.specs.Rows.{begun_list, write_list}
-use Rattle.group.specs.declared.turn.Progress.{Progress}
-use Rattle.group.specs.Phases.{progress_number}
+use Rattle.errors.specs.declared.Progress.{Progress}
+use Rattle.errors.specs.Errors.{progress_number}
 use Rattle.group.specs.Groups.{under_way}
 use Rattle.journal.specs.declared.live.Live.{Live}
 

@@ -6,9 +6,9 @@ ghost use Rattle.journal.specs.Model.{model, does, stepped};
 
 use crate::live::Live;
 use disk::disk::BenchDisk;
-use errors::{CacheCall, CacheError, during};
+use errors::{CacheCall, CacheError, Progress, during};
 use group::making::make;
-use group::turn::{Progress, advance};
+use group::turn::advance;
 
 impl<D: BenchDisk> Live<D> {
     // Makes the disk call of the group's phase and moves on; a fault leaves phase and turn.

@@ -25,8 +25,8 @@ use Rattle.ordered_law.specs.Events.{Answer, Call, took, shown, refused}
 use Rattle.ordered_law.specs.Cache.{Cache, Outcome, fresh, opened, refuse, handed, last_mark, begin_refusal, unless, one_begun, begin_call, finish_call, one_withdrawn, withdraw_call, restart_call, read_through, read_call, settled_rows, flushed_rows, flushed_counts, flush_call, any_busy, any_sent, step_with, step_call, tally, outcome}
 use Rattle.ordered_law.specs.Runs.{Ran, started, RunsOn}
 use Rattle.ordered_law.proofs.Running.{lawful_runs, runs_on}
-use Rattle.ordered.specs.declared.progress.Progress.{Progress}
-use Rattle.ordered.specs.declared.progress.Progress.TheVariants.{Written, Flushed}
+use Rattle.errors.specs.declared.Progress.{Progress}
+use Rattle.errors.specs.declared.Progress.TheVariants.{Written, Flushed}
 use Rattle.ordered.specs.Model.{gives, stepped, write_in, asked_write}
 use Rattle.ordered.specs.Grants.{Job, jobs, handed_up}
 use Rattle.ordered.specs.Opening.{flush_answer, flush_leaves, made, Starts}

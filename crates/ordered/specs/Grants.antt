@@ -9,7 +9,7 @@ use Rattle.table.specs.declared.held.Row.{Row}
 use Rattle.table.specs.declared.held.Row.TheVariants.{Vacant}
 use Rattle.table.specs.declared.scan.Candidate.{Candidate}
 use Rattle.ordered.specs.declared.live.Grant.{Grant}
-use Rattle.ordered.specs.declared.progress.Progress.{Progress}
+use Rattle.errors.specs.declared.Progress.{Progress}
 use Rattle.ordered.specs.Model.{write_in}
 
 -- the row to write back, and its write

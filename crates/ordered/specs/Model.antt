@@ -2,6 +2,8 @@
 use Rattle.std.specs.Prelude.{ℕ, List, Some, None, Ok, Err, Option, Result, slice_index_or}
 use Rattle.disk.specs.Medium.{Write, Medium, Effect}
 use Rattle.errors.specs.declared.CacheError.{CacheError}
+use Rattle.errors.specs.declared.Progress.{Progress}
+use Rattle.errors.specs.Errors.{progress_number}
 use Rattle.precedence.specs.Stamps.{Precedence}
 use Rattle.table.specs.declared.held.Row.{Row}
 use Rattle.table.specs.declared.held.Row.TheVariants.{Vacant}
@@ -12,8 +14,6 @@ use Rattle.ordered_law.specs.Device.{Device}
 use Rattle.ordered_law.specs.Events.{Answer, took, refused}
 use Rattle.ordered_law.specs.Cache.{Cache, Outcome}
 use Rattle.ordered.specs.declared.live.Live.{Live}
-use Rattle.ordered.specs.declared.progress.Progress.{Progress}
-use Rattle.ordered.specs.declared.progress.Progress.TheVariants.{Idle, Written, Flushed, Blocked}
 
 -- what a live cache means, by what its disk means
 abbrev pub model : {D P : Type 0} → (D → Medium) → Live D P → Cache
@@ -33,13 +33,6 @@ marked (Err e) = refused e
 abbrev pub accepted : Result (Unit {0}) CacheError → Answer
 accepted (Ok u) = took 0
 accepted (Err e) = refused e
-
--- the number by which what a step did is known
-abbrev pub progress_number : Progress → ℕ
-progress_number Idle = 0
-progress_number Written = 1
-progress_number Flushed = 2
-progress_number Blocked = 3
 
 abbrev pub stepped : Result Progress CacheError → Answer
 stepped (Ok p) = took (progress_number p)

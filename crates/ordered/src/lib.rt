@@ -5,6 +5,5 @@ pub mod calls;
 pub mod cold;
 pub mod live;
 pub mod opening;
-pub mod progress;
 pub mod reads;
 pub mod steps;

@@ -8,13 +8,12 @@ ghost use Rattle.ordered_law.specs.Runs.{RunsOn};
 ghost use Rattle.ordered.specs.Model.{model, gives, stepped, device};
 ghost use Rattle.ordered.specs.Grants.{job, jobs, handed_up};
 ghost use Rattle.ordered.specs.Opening.{flush_answer, flush_leaves};
-ghost use Rattle.ordered.specs.declared.progress.Progress.TheVariants as done;
+ghost use Rattle.errors.specs.declared.Progress.TheVariants as done;
 
 use crate::live::{Grant, Live};
-use crate::progress::Progress;
 use disk::disk::BenchDisk;
 use disk::error::DiskError;
-use errors::{CacheCall, CacheError, during};
+use errors::{CacheCall, CacheError, Progress, during};
 use precedence::Precedence;
 use table::held::{Change, Query};
 use table::scan::lowest_ready;
