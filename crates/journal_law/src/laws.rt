@@ -2,36 +2,26 @@ ghost use Rattle.journal_law.specs.Laws.{HeadExact, LawfulRuns, RecoveryIdles, R
 ghost use Rattle.journal_law.specs.Known.{WorkedRun};
 
 // A block is a head exactly where it has a head's layout.
-pub fn head_is_exact() -> u8
+pub fn head_is_exact()
     ensures { HeadExact }
-{
-    0
-}
+{}
 
 // Every run of the journaled cache obeys the laws: recovery is atomic and succeeds, a group leaves, a read shows the newest write.
-pub fn runs_are_lawful() -> u8
+pub fn runs_are_lawful()
     ensures { LawfulRuns }
-{
-    0
-}
+{}
 
 // A recovery that succeeds, on whatever volume, leaves it idle.
-pub fn recovery_idles() -> u8
+pub fn recovery_idles()
     ensures { RecoveryIdles }
-{
-    0
-}
+{}
 
 // Every recovery ends, and is broken off by faults alone.
-pub fn recovery_ends() -> u8
+pub fn recovery_ends()
     ensures { RecoveryEnds }
-{
-    0
-}
+{}
 
 // A whole run: the head lost and standing, the commit, and the group's last step.
-pub fn worked_run() -> u8
+pub fn worked_run()
     ensures { WorkedRun }
-{
-    0
-}
+{}

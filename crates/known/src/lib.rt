@@ -3,8 +3,6 @@
 
 ghost use Rattle.known.specs.Known.{KnownOutcomes};
 
-pub fn known_outcomes() -> u8
+pub fn known_outcomes()
     ensures { KnownOutcomes }
-{
-    0
-}
+{}
