@@ -112,10 +112,7 @@ impl CacheError {
 pub fn during(call: CacheCall, answer: Result<(), DiskError>) -> Result<(), CacheError>
     ensures { result ≡ raised call answer }
 {
-    match answer {
-        Ok(()) => Ok(()),
-        Err(error) => Err(CacheError::Volume(call, error.into())),
-    }
+    answer.map_err(|error| CacheError::Volume(call, error.into()))
 }
 
 // What a step of a live cache did.
