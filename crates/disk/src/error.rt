@@ -4,20 +4,17 @@ ghost use Rattle.disk.specs.Calls.{number, kind_number};
 // The kind of call that a fault answers.
 #[derive(Clone, Copy, PartialEq, Eq, Debug)]
 pub enum Kind {
-    Read,
-    Write,
-    Flush,
+    Read = 1,
+    Write = 2,
+    Flush = 3,
 }
 
 impl Kind {
+    // The number by which it is known.
     pub fn number(self) -> u8
         ensures { result ≡ kind_number self }
     {
-        match self {
-            Kind::Read => 1,
-            Kind::Write => 2,
-            Kind::Flush => 3,
-        }
+        self as u8
     }
 }
 
@@ -41,6 +38,7 @@ pub enum DiskError {
 }
 
 impl DiskError {
+    // The number by which it is known, which does not tell a fault's call: a method, since a variant with a field has no discriminant.
     pub fn number(self) -> u8
         ensures { result ≡ number self }
     {

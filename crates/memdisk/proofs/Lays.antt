@@ -1,16 +1,14 @@
 -- Writes laid on blocks one by one.
-use Rattle.std.proofs.Common.{◌≡◌, ℕ, zero, suc, ◌+◌, ◌-◌, ◌/◌, ◌%◌, ◌<◌, ◌≤◌, false, cond, eqb, ◌≢◌, List, [], ◌∷◌, ◌++◌, length, get_or, take, set, sym, refl, ap, ◌∙◌, arith, eq-eqb}
+use Rattle.std.proofs.Common.{◌≡◌, ℕ, ◌/◌, ◌%◌, ◌<◌, Bool, true, false, cond, eqb, ◌≢◌, List, [], ◌∷◌, ◌++◌, length, get_or, set, Option, Some, None, sym, refl, ap, ◌∙◌, arith, eq-eqb, eqb-true}
+use Rattle.std.specs.List.{find}
+use Rattle.std.specs.Option.{option_map, option_map_or, option_or}
 use Rattle.std.proofs.lemmas.Bool.Decides.{nat_tests}
-use Rattle.std.proofs.lemmas.List.{length-set, map_more, get_or-set_same, get_or-set_other}
+use Rattle.std.proofs.lemmas.List.{length-set, get_or-set_same, get_or-set_other, reverse-append}
+use Rattle.std.proofs.lemmas.List.Folds.{find-append}
+use Rattle.std.specs.Prelude.{reverse}
 use Rattle.memdisk.specs.declared.loose.LooseWrite.{LooseWrite}
-use Rattle.disk.specs.Medium.{Block, Write, Fitting, lay, standing}
-use Rattle.memdisk.specs.Parts.{as_write, writes_of, no_write, EachFits}
-
-pub each_fits_push : (n : ℕ) (ws : List LooseWrite) (w : LooseWrite) → EachFits n ws → Fitting n (as_write w) → EachFits n (ws ++ w ∷ [])
-each_fits_push n [] w f g zero h = g
-each_fits_push n [] w f g (suc k) h = absurd (omega arith)
-each_fits_push n (v ∷ ws) w f g zero h = f 0 (omega arith)
-each_fits_push n (v ∷ ws) w f g (suc k) h = each_fits_push n ws w (λ j l. f (suc j) (omega arith)) g k (omega arith)
+use Rattle.disk.specs.Medium.{Block, Write, lay, standing}
+use Rattle.memdisk.specs.Parts.{writes_of}
 
 pub standing_yes : (choice : ℕ) (w : Write) (ws : List Write) → choice % 2 ≡ 1 → standing choice (w ∷ ws) ≡ w ∷ standing (choice / 2) ws
 standing_yes choice w ws e = ap (λ t. cond t (w ∷ standing (choice / 2) ws) (standing (choice / 2) ws)) (eq-eqb (choice % 2) 1 e)
@@ -29,28 +27,28 @@ pub lay_push : (bs : List Block) (ws : List Write) (w : Write) → lay bs (ws ++
 lay_push bs [] w = refl
 lay_push bs (v ∷ ws) w = lay_push (set bs v.place v.bytes) ws w
 
-pub writes_more : (ws : List LooseWrite) (i : ℕ) → i < length ws → writes_of (take (i + 1) ws) ≡ writes_of (take i ws) ++ as_write (get_or ws i no_write) ∷ []
-writes_more ws i h = map_more as_write ws i no_write h
+-- whether a write is at a place
+abbrev pub at : ℕ → LooseWrite → Bool
+at place w = eqb w.place place
 
-module _ (bs : List Block) (ws : List LooseWrite) (i place : ℕ) (some : 0 < i) (within : i ≤ length ws) where
-  last_laid : get_or (lay bs (writes_of (take i ws))) place [] ≡ get_or (set (lay bs (writes_of (take (i - 1) ws))) (get_or ws (i - 1) no_write).place (get_or ws (i - 1) no_write).bytes) place []
-  last_laid =
-      let e : i ≡ (i - 1) + 1 = omega arith in
-      let w = as_write (get_or ws (i - 1) no_write) in
-      ap (λ n. get_or (lay bs (writes_of (take n ws))) place []) e
-      ∙ ap (λ vs. get_or (lay bs vs) place []) (writes_more ws (i - 1) (omega arith))
-      ∙ ap (λ cs. get_or cs place []) (lay_push bs (writes_of (take (i - 1) ws)) w)
+over : (bs : List Block) (w : LooseWrite) (place : ℕ) (o : Option LooseWrite) → place < length bs
+    → option_map_or (λ v. v.bytes) o (get_or (set bs w.place w.bytes) place []) ≡ option_map_or (λ v. v.bytes) (option_or o (find (at place) (w ∷ []))) (get_or bs place [])
+over bs w place (Some v) h = refl
+over bs w place None h =
+    elim (eqb w.place place) as (λ t. eqb w.place place ≡ t → get_or (set bs w.place w.bytes) place [] ≡ option_map_or (λ v. v.bytes) (cond t (Some w) None) (get_or bs place [])) [
+      | true ↦ λ e. ap (λ p. get_or (set bs p w.bytes) place []) (eqb-true w.place place e) ∙ get_or-set_same bs place w.bytes [] h
+      | false ↦ λ e. get_or-set_other bs w.place place w.bytes [] (grind (arith, nat_tests))
+    ] refl
 
-  -- the last of the first i writes is at the place
-  pub shown_here : place < length bs → (get_or ws (i - 1) no_write).place ≡ place → get_or (lay bs (writes_of (take i ws))) place [] ≡ (get_or ws (i - 1) no_write).bytes
-  shown_here h e =
-      let cs = lay bs (writes_of (take (i - 1) ws)) in
-      let b = (get_or ws (i - 1) no_write).bytes in
-      last_laid ∙ ap (λ p. get_or (set cs p b) place []) e ∙ get_or-set_same cs place b [] (omega (arith, length_lay bs (writes_of (take (i - 1) ws))))
+-- a read shows the newest write at the place, or else the block
+shown : (bs : List Block) (ws : List LooseWrite) (place : ℕ) → place < length bs → get_or (lay bs (writes_of ws)) place [] ≡ option_map_or (λ w. w.bytes) (find (at place) (reverse ws)) (get_or bs place [])
+shown bs [] place h = refl
+shown bs (w ∷ ws) place h =
+    shown (set bs w.place w.bytes) ws place (omega (arith, length-set bs w.place w.bytes))
+    ∙ over bs w place (find (at place) (reverse ws)) h
+    ∙ ap (λ o. option_map_or (λ v. v.bytes) o (get_or bs place [])) (sym (find-append (at place) (reverse ws) (w ∷ [])) ∙ ap (find (at place)) (sym (reverse-append (w ∷ []) ws)))
 
-  -- it is elsewhere
-  pub shown_before : (get_or ws (i - 1) no_write).place ≢ place → get_or (lay bs (writes_of (take (i - 1) ws))) place [] ≡ get_or (lay bs (writes_of (take i ws))) place []
-  shown_before ne =
-      let cs = lay bs (writes_of (take (i - 1) ws)) in
-      let w = get_or ws (i - 1) no_write in
-      sym (last_laid ∙ get_or-set_other cs w.place place w.bytes [] (λ e. ne (sym e)))
+-- the same, of a search that found the newest write or none
+pub shown_found : {X : Type 0} (v : X → LooseWrite) (r : Option X) (bs : List Block) (ws : List LooseWrite) (place : ℕ) → place < length bs → option_map v r ≡ find (at place) (reverse ws) → option_map_or (λ x. (v x).bytes) r (get_or bs place []) ≡ get_or (lay bs (writes_of ws)) place []
+shown_found v None bs ws place h e = sym (shown bs ws place h ∙ ap (λ o. option_map_or (λ w. w.bytes) o (get_or bs place [])) (sym e))
+shown_found v (Some x) bs ws place h e = sym (shown bs ws place h ∙ ap (λ o. option_map_or (λ w. w.bytes) o (get_or bs place [])) (sym e))

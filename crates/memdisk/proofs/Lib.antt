@@ -1,4 +1,3 @@
-pub mod Fates
-pub mod Lays
-pub mod Soundness
 pub mod Chunks
+pub mod Lays
+pub mod Fates

@@ -1,7 +1,7 @@
 -- Which memory and plan make a disk, and which disk.
-use Rattle.std.specs.Prelude.{◌≡◌, ℕ, ◌*◌, ◌/◌, Bool, false, cond, List, [], length}
+use Rattle.std.specs.Prelude.{◌≡◌, ℕ, ◌*◌, Bool, false, cond, List, [], length}
 use Rattle.disk.specs.Medium.{Medium, size}
-use Rattle.memdisk.specs.Memory.{blocks_in, whole_blocks, entries, all_entries}
+use Rattle.memdisk.specs.Memory.{blocks_in, memory_blocks, whole_blocks, entries, all_entries}
 
 -- 1 to 4,096 whole blocks, and a plan with no byte above 1
 abbrev pub usable : List ℕ → List ℕ → Bool
@@ -13,7 +13,7 @@ unusable_number = 13
 
 -- the medium of a disk that was just made
 abbrev pub fresh : List ℕ → List ℕ → Medium
-fresh memory plan = record { firm = blocks_in (length memory / 512) memory; loose = []; plan = entries plan 0 }
+fresh memory plan = record { firm = memory_blocks memory; loose = []; plan = entries plan }
 
 -- memory that holds just the firm blocks of a medium
 pub record Holds (m : Medium) (memory : List ℕ) : Type 0 where

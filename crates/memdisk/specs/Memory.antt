@@ -1,11 +1,16 @@
 -- Blocks that lie one after another in memory, and a plan given as bytes.
-use Rattle.std.specs.Prelude.{ℕ, zero, suc, ◌*◌, ◌%◌, Bool, true, false, cond, List, [], ◌∷◌, map, take, drop, ◌==◌, nat_le, nat_lt}
+use Rattle.std.specs.Prelude.{ℕ, zero, suc, ◌*◌, ◌/◌, ◌%◌, Bool, false, cond, List, length, map, ◌==◌, nat_le, nat_lt}
+use Rattle.std.specs.List.{list_all}
+use Rattle.std.specs.Simd.{first_chunks}
 use Rattle.disk.specs.Medium.{Block, Entry, good, bad}
 
 -- the first n blocks of the memory
 unfoldable pub blocks_in : ℕ → List ℕ → List Block
-blocks_in zero memory = []
-blocks_in (suc n) memory = take 512 memory ∷ blocks_in n (drop 512 memory)
+blocks_in n memory = first_chunks 512 n memory
+
+-- all blocks of memory that is whole ones
+abbrev pub memory_blocks : List ℕ → List Block
+memory_blocks memory = blocks_in (length memory / 512) memory
 
 -- a number of bytes that is 1 to 4,096 whole blocks
 abbrev pub whole_blocks : ℕ → Bool
@@ -15,15 +20,10 @@ abbrev pub entry : ℕ → Entry
 entry zero = good
 entry (suc n) = bad
 
--- the plan that is left once some entries were taken
-abbrev pub entries : List ℕ → ℕ → List Entry
-entries bytes taken = map entry (drop taken bytes)
-
-abbrev pub is_bad : Entry → Bool
-is_bad good = false
-is_bad bad = true
+-- the plan of these bytes
+abbrev pub entries : List ℕ → List Entry
+entries bytes = map entry bytes
 
 -- no byte of a plan is above 1
 abbrev pub all_entries : List ℕ → Bool
-all_entries [] = true
-all_entries (b ∷ bs) = cond (nat_le b 1) (all_entries bs) false
+all_entries bytes = list_all (λ b. nat_le b 1) bytes

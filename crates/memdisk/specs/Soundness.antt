@@ -1,13 +1,13 @@
 -- What holds of the medium of every disk in memory.
-use Rattle.std.proofs.Common.{◌≡◌, ℕ, zero, suc, ◌*◌, List, [], ◌∷◌, length, drop, vec_items, refl, sym, ap, subst, arith}
+use Rattle.std.proofs.Common.{◌≡◌, ℕ, zero, suc, ◌/◌, ◌*◌, ◌≤◌, List, [], ◌∷◌, length, drop, vec_items, refl, ap, arith}
 use Rattle.std.specs.List.{AllByRecursion}
 use Rattle.std.proofs.lemmas.List.{length-map, length-take-le, length-drop}
+use Rattle.arrayvec.specs.ArrayVec.{ArrayVec, array_vec_len}
 use Rattle.disk.specs.Medium.{Sound, Fitting, IsBlock}
-use Rattle.memdisk.specs.Parts.{as_write, writes_of, held_in, medium_of, EachFits}
+use Rattle.memdisk.specs.Parts.{as_write, writes_of, held_in, blocks_of, medium_of, EachFits, no_write}
 use Rattle.memdisk.specs.Memory.{blocks_in}
 use Rattle.memdisk.specs.declared.loose.LooseWrite.{LooseWrite}
 use Rattle.memdisk.specs.declared.blocks.Blocks.{Blocks}
-use Rattle.memdisk.specs.declared.loose.LooseWrites.{LooseWrites}
 use Rattle.memdisk.specs.declared.plan.Plan.{Plan}
 
 -- n blocks are n, each of 512 bytes
@@ -24,29 +24,20 @@ all_blocks (suc n) xs w = (length-take-le 512 xs (omega arith), all_blocks n (dr
 -- the writes of a disk each fit it
 pub all_fitting : (n : ℕ) (ws : List LooseWrite) → EachFits n ws → AllByRecursion (Fitting n) (writes_of ws)
 all_fitting n [] f = tt
-all_fitting n (w ∷ ws) f = (f 0 (omega arith), all_fitting n ws (λ k h. f (suc k) (omega arith)))
+all_fitting n (w ∷ ws) f = (f 0 no_write (omega arith), all_fitting n ws (λ k d h. f (suc k) d (omega arith)))
 
 -- some writes are loose
-pub parts_sound : (b : Blocks) (l : LooseWrites) (p : Plan) → EachFits b.count (held_in l) → Sound (medium_of b (held_in l) p)
-parts_sound b l p fits =
-    let ws = held_in l in
-    let long = length_blocks b.count (vec_items b.memory) in
+pub parts_sound : (b : Blocks) (l : ArrayVec LooseWrite) (p : Plan) → array_vec_len l ≤ 8 → EachFits (length (blocks_of b)) (held_in l) → Sound (medium_of b (held_in l) p)
+parts_sound b l p few fits =
+    let long = length_blocks (length (vec_items b.memory) / 512) (vec_items b.memory) in
     record {
       some = omega arith;
       few = omega arith;
-      blocks = all_blocks b.count (vec_items b.memory) (omega (arith, b.memory.ok.0));
-      held = omega (arith, length-map ws as_write, length-take-le l.count l.writes (omega arith));
-      fitting = subst (λ n. AllByRecursion (Fitting n) (writes_of ws)) (sym long) (all_fitting b.count ws fits);
+      blocks = all_blocks (length (vec_items b.memory) / 512) (vec_items b.memory) (omega (arith, b.memory.ok.0));
+      held = omega (arith, length-map (held_in l) as_write);
+      fitting = all_fitting (length (blocks_of b)) (held_in l) fits;
     }
 
 -- none is
 pub through_sound : (b : Blocks) (p : Plan) → Sound (medium_of b [] p)
-through_sound b p =
-    let long = length_blocks b.count (vec_items b.memory) in
-    record {
-      some = omega arith;
-      few = omega arith;
-      blocks = all_blocks b.count (vec_items b.memory) (omega (arith, b.memory.ok.0));
-      held = omega arith;
-      fitting = tt;
-    }
+through_sound b p = parts_sound b (record { items = [] }) p (omega arith) (λ k d h. absurd (omega arith))

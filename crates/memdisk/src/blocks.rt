@@ -1,5 +1,5 @@
-ghost use Rattle.std.specs.Prelude.{◌≡◌, ◌*◌, ◌/◌, ◌<◌, ◌≤◌, true, false, [], length, vec_len, MatchResult, slice_index_or, slice_set};
-ghost use Rattle.memdisk.specs.Memory.{blocks_in, whole_blocks};
+ghost use Rattle.std.specs.Prelude.{◌≡◌, ◌*◌, ◌%◌, ◌<◌, ◌≤◌, true, false, [], length, MatchResult, slice_index_or, slice_set};
+ghost use Rattle.memdisk.specs.Memory.{memory_blocks, whole_blocks};
 
 use disk::disk::BLOCK;
 
@@ -10,51 +10,56 @@ const BLOCKS_MAX: usize = 4096;
 #[derive(Drop)]
 pub struct Blocks {
     pub memory: Vec<u8>,
-    pub count: usize,
-    ghost whole: { vec_len memory ≡ 512 * count },
-    ghost some: { 1 ≤ count },
-    ghost few: { count ≤ 4096 },
+    ghost whole: { length memory.items % 512 ≡ 0 },
+    ghost some: { 0 < length memory.items },
+    ghost few: { length memory.items ≤ 4096 * 512 },
 }
 
 impl Blocks {
     // The blocks of the memory, if it is 1 to 4,096 whole ones; else the memory back.
     pub(crate) fn new(memory: Vec<u8>) -> Result<Blocks, Vec<u8>>
-        ensures { MatchResult result (λ b. (whole_blocks (length memory.items) ≡ true) × (b.memory ≡ memory) × (b.count ≡ length memory.items / 512)) (λ back. (whole_blocks (length memory.items) ≡ false) × (back ≡ memory)) }
+        ensures { MatchResult result (λ b. (whole_blocks (length memory.items) ≡ true) × (b.memory ≡ memory)) (λ back. (whole_blocks (length memory.items) ≡ false) × (back ≡ memory)) }
     {
         let length = memory.len();
         if length % BLOCK != 0 || length == 0 || length > BLOCKS_MAX * BLOCK {
             return Err(memory);
         }
-        Ok(Blocks {
-            memory,
-            count: length / BLOCK,
-        })
+        Ok(Blocks { memory })
     }
 
-    // Copies the block of the place into the buffer.
-    pub(crate) fn load(&self, place: usize, buffer: &mut [u8])
-        requires { (place < self.now.count) × (length buffer.old ≡ 512) }
-        ensures { buffer.new ≡ slice_index_or (blocks_in self.now.count self.now.memory.items) place [] }
+    // How many they are.
+    #[tactic(auto, using(crate::specs::Soundness::length_blocks))]
+    pub(crate) fn count(&self) -> usize
+        ensures { result ≡ length (memory_blocks self.now.memory.items) }
     {
-        let start = place * BLOCK;
-        buffer.copy_from_slice(&self.memory[start..start + BLOCK]);
+        self.memory.len() / BLOCK
+    }
+
+    // The block of the place.
+    #[tactic(auto, using(crate::specs::Soundness::length_blocks), unfolding(crate::specs::Memory::blocks_in))]
+    pub(crate) fn load(&self, place: usize) -> &[u8; BLOCK]
+        requires { place < length (memory_blocks self.now.memory.items) }
+        ensures { result.now ≡ slice_index_or (memory_blocks self.now.memory.items) place [] }
+    {
+        let (blocks, _) = self.memory.as_chunks::<BLOCK>();
+        &blocks[place]
     }
 
     // Replaces the block of the place.
-    pub(crate) fn store(&mut self, place: usize, bytes: &[u8])
-        requires { (place < self.old.count) × (length bytes.now ≡ 512) }
-        ensures count { self.new.count ≡ self.old.count }
-        ensures after { blocks_in self.new.count self.new.memory.items ≡ slice_set (blocks_in self.old.count self.old.memory.items) place bytes.now }
+    #[tactic(auto, using(crate::specs::Soundness::length_blocks))]
+    pub(crate) fn store(&mut self, place: usize, block: &[u8; BLOCK])
+        requires { place < length (memory_blocks self.old.memory.items) }
+        ensures { memory_blocks self.new.memory.items ≡ slice_set (memory_blocks self.old.memory.items) place block.now }
     {
         let start = place * BLOCK;
-        self.memory[start..start + BLOCK].copy_from_slice(bytes);
+        self.memory[start..start + BLOCK].copy_from_slice(block);
     }
 
     // The memory back.
     pub(crate) fn into_memory(self) -> Vec<u8>
         ensures { result ≡ self.memory }
     {
-        let Blocks { memory, count: _ } = self;
+        let Blocks { memory } = self;
         memory
     }
 }

@@ -1,25 +1,29 @@
-ghost use Rattle.std.specs.Prelude.{◌≡◌, true, false, MatchResult};
+ghost use Rattle.std.specs.Prelude.{◌≡◌, ◌≤◌, true, false, length, MatchResult, refl};
+ghost use Rattle.arrayvec.specs.ArrayVec.{array_vec_len};
 ghost use Rattle.disk.specs.Medium.{join};
 ghost use Rattle.memdisk.specs.Making.{usable, fresh, Holds};
-ghost use Rattle.memdisk.specs.Parts.{medium_of, held_in, EachFits};
+ghost use Rattle.memdisk.specs.Parts.{medium_of, held_in, blocks_of, EachFits};
 ghost use Rattle.memdisk.specs.Soundness.{parts_sound};
 
 use crate::blocks::Blocks;
-use crate::laying::{lay_all, lay_standing, load_current};
-use crate::loose::{LooseWrite, LooseWrites};
+use crate::laying::{current, lay_all, lay_standing};
+use crate::loose::LooseWrite;
 use crate::parts::parts;
-use crate::plan::{Plan, fault};
+use crate::plan::Plan;
 use crate::unusable::Unusable;
-use disk::disk::{BenchDisk, Disk, LOOSE_MAX};
+use arrayvec::ArrayVec;
+use disk::disk::{BLOCK, BenchDisk, Disk, JoiningDisk, LOOSE_MAX};
 use disk::error::{DiskError, Kind};
 
 // A disk whose good writes join the loose ones until eight are loose; the ninth settles.
 #[derive(Drop)]
 pub struct HeldDisk {
     blocks: Blocks,
-    loose: LooseWrites,
+    // oldest first
+    loose: ArrayVec<LooseWrite, LOOSE_MAX>,
     plan: Plan,
-    ghost fitting: { EachFits blocks.count (held_in loose) },
+    ghost few: { array_vec_len loose ≤ 8 },
+    ghost fitting: { EachFits (length (blocks_of blocks)) (held_in loose) },
 }
 
 impl HeldDisk {
@@ -30,7 +34,7 @@ impl HeldDisk {
         let (blocks, plan) = parts(memory, plan)?;
         Ok(HeldDisk {
             blocks,
-            loose: LooseWrites::new(),
+            loose: ArrayVec::new(),
             plan,
         })
     }
@@ -55,41 +59,43 @@ impl Disk for HeldDisk {
 
     ghost rule = { λ _ _. join };
 
-    ghost sound = { λ d. parts_sound d.blocks d.loose d.plan d.fitting };
+    ghost sound = { λ d. parts_sound d.blocks d.loose d.plan d.few d.fitting };
 
     fn tries() -> u32 {
         1
     }
 
     fn size(&self) -> usize {
-        self.blocks.count
+        self.blocks.count()
     }
 
     fn read(&mut self, place: usize, buffer: &mut [u8]) -> Result<(), DiskError> {
-        self.plan
-            .admit(self.blocks.count, Kind::Read, place, buffer.len())?;
-        load_current(&self.blocks, self.loose.as_slice(), place, buffer);
+        let block = buffer.as_mut_array::<BLOCK>().ok_or(DiskError::Length)?;
+        self.plan.admit(self.blocks.count(), Kind::Read, place)?;
+        *block = *current(&self.blocks, &self.loose, place);
         Ok(())
     }
 
+    #[tactic(auto, using(crate::proofs::Lays::length_lay))]
     fn write(&mut self, place: usize, bytes: &[u8]) -> Result<(), DiskError> {
-        self.plan
-            .admit(self.blocks.count, Kind::Write, place, bytes.len())?;
-        if self.loose.count < LOOSE_MAX {
-            self.loose.push(LooseWrite::new(place, bytes));
-        } else {
-            lay_all(&mut self.blocks, self.loose.as_slice());
+        let block = bytes.as_array::<BLOCK>().ok_or(DiskError::Length)?;
+        self.plan.admit(self.blocks.count(), Kind::Write, place)?;
+        if self.loose.is_full() {
+            lay_all(&mut self.blocks, &self.loose);
             self.loose.clear();
-            self.blocks.store(place, bytes);
+            self.blocks.store(place, block);
+        } else {
+            self.loose.push(LooseWrite {
+                place,
+                bytes: *block,
+            });
         }
         Ok(())
     }
 
     fn flush(&mut self) -> Result<(), DiskError> {
-        if self.plan.fails() {
-            return Err(fault(Kind::Flush, 0));
-        }
-        lay_all(&mut self.blocks, self.loose.as_slice());
+        self.plan.pass(Kind::Flush, 0)?;
+        lay_all(&mut self.blocks, &self.loose);
         self.loose.clear();
         Ok(())
     }
@@ -97,7 +103,11 @@ impl Disk for HeldDisk {
 
 impl BenchDisk for HeldDisk {
     fn cut(&mut self, choice: u8) {
-        lay_standing(&mut self.blocks, self.loose.as_slice(), choice);
+        lay_standing(&mut self.blocks, &self.loose, choice);
         self.loose.clear();
     }
+}
+
+impl JoiningDisk for HeldDisk {
+    ghost joins = { λ d w. refl };
 }

@@ -4,12 +4,12 @@ ghost use Rattle.memdisk.specs.Parts.{blocks_of, writes_of, EachFits};
 
 use crate::blocks::Blocks;
 use crate::loose::LooseWrite;
+use disk::disk::BLOCK;
 
 // Lays the writes on the blocks, the first first.
 pub(crate) fn lay_all(blocks: &mut Blocks, writes: &[LooseWrite])
-    requires { EachFits blocks.old.count writes.now }
-    ensures count { blocks.new.count ≡ blocks.old.count }
-    ensures after { blocks_of blocks.new ≡ lay (blocks_of blocks.old) (writes_of writes.now) }
+    requires { EachFits (length (blocks_of blocks.old)) writes.now }
+    ensures { blocks_of blocks.new ≡ lay (blocks_of blocks.old) (writes_of writes.now) }
 {
     for w in writes {
         blocks.store(w.place, &w.bytes);
@@ -17,10 +17,10 @@ pub(crate) fn lay_all(blocks: &mut Blocks, writes: &[LooseWrite])
 }
 
 // Lays those of the writes on the blocks that stand by the choice's bits, the first by the lowest.
+// The bits are halved by hand: a shift by the write's number says no more, and asks for a bound on it.
 pub(crate) fn lay_standing(blocks: &mut Blocks, writes: &[LooseWrite], choice: u8)
-    requires { EachFits blocks.old.count writes.now }
-    ensures count { blocks.new.count ≡ blocks.old.count }
-    ensures after { blocks_of blocks.new ≡ lay (blocks_of blocks.old) (standing choice (writes_of writes.now)) }
+    requires { EachFits (length (blocks_of blocks.old)) writes.now }
+    ensures { blocks_of blocks.new ≡ lay (blocks_of blocks.old) (standing choice (writes_of writes.now)) }
 {
     let mut bits = choice;
     for w in writes {
@@ -31,18 +31,17 @@ pub(crate) fn lay_standing(blocks: &mut Blocks, writes: &[LooseWrite], choice: u
     }
 }
 
-// Copies the newest of the writes at the place, or else its block, into the buffer.
-pub(crate) fn load_current(blocks: &Blocks, writes: &[LooseWrite], place: usize, buffer: &mut [u8])
-    requires within { place < blocks.now.count }
-    requires whole { length buffer.old ≡ 512 }
-    requires fitting { EachFits blocks.now.count writes.now }
-    ensures { buffer.new ≡ slice_index_or (lay (blocks_of blocks.now) (writes_of writes.now)) place [] }
+// What a read of the place shows: the newest of the writes at it, or else its block.
+pub(crate) fn current<'a>(
+    blocks: &'a Blocks,
+    writes: &'a [LooseWrite],
+    place: usize,
+) -> &'a [u8; BLOCK]
+    requires { place < length (blocks_of blocks.now) }
+    ensures { result.now ≡ slice_index_or (lay (blocks_of blocks.now) (writes_of writes.now)) place [] }
 {
-    for i in (0..writes.len()).rev() {
-        if writes[i].place == place {
-            buffer.copy_from_slice(&writes[i].bytes);
-            return;
-        }
+    match writes.iter().rev().find(|w| w.place == place) {
+        Some(w) => &w.bytes,
+        None => blocks.load(place),
     }
-    blocks.load(place, buffer);
 }

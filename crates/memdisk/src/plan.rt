@@ -1,99 +1,63 @@
-ghost use Rattle.std.specs.Prelude.{◌≡◌, true, false, MatchResult};
+ghost use Rattle.std.specs.Prelude.{◌≡◌};
+ghost use Rattle.disk.specs.Calls.{answer, by_entry};
 ghost use Rattle.disk.specs.Medium.{due, later};
-ghost use Rattle.memdisk.specs.Memory.{entries, is_bad, all_entries};
-ghost use Rattle.memdisk.specs.Admission.{Admits, failure};
+ghost use Rattle.memdisk.specs.Memory.{entries, all_entries};
+ghost use Rattle.memdisk.specs.Parts.{plan_of};
+ghost use Rattle.memdisk.specs.Admission.{Admits};
 
-use disk::disk::BLOCK;
 use disk::error::{DiskError, Fault, Kind};
+use std::vec::IntoIter;
 
 // The bytes of a plan's entries.
 const GOOD: u8 = 0;
 
 const BAD: u8 = 1;
 
-// Which of the calls to come will fail: a byte for each.
+// Which of the calls to come will fail: the bytes of the entries that are left.
 #[derive(Drop)]
 pub struct Plan {
-    pub bytes: Vec<u8>,
-    pub taken: usize,
+    pub bytes: IntoIter<u8>,
 }
 
 // Whether each byte is an entry of a plan.
-fn all_entries(bytes: &[u8]) -> bool
+pub(crate) fn all_entries(bytes: &[u8]) -> bool
     ensures { result ≡ all_entries bytes.now }
 {
-    for b in bytes {
-        if *b > BAD {
-            return false;
-        }
-    }
-    true
-}
-
-// What a bottom disk answers to a call that fails.
-pub(crate) fn fault(kind: Kind, place: usize) -> DiskError
-    ensures { result ≡ failure kind place }
-{
-    DiskError::Fault(Fault {
-        kind,
-        place,
-        tries: 1,
-    })
+    bytes.iter().all(|b| *b <= BAD)
 }
 
 impl Plan {
-    // The plan of these bytes, if each is an entry; else the bytes back.
-    pub(crate) fn new(bytes: Vec<u8>) -> Result<Plan, Vec<u8>>
-        ensures { MatchResult result (λ p. (all_entries bytes.items ≡ true) × (p ≡ record { bytes = bytes; taken = 0 })) (λ back. (all_entries bytes.items ≡ false) × (back ≡ bytes)) }
+    // The plan of these bytes.
+    pub(crate) fn new(bytes: Vec<u8>) -> Plan
+        ensures { plan_of result ≡ entries bytes.items }
     {
-        if all_entries(&bytes) {
-            Ok(Plan { bytes, taken: 0 })
-        } else {
-            Err(bytes)
+        Plan {
+            bytes: bytes.into_iter(),
         }
     }
 
-    // Takes the next entry off the plan: true if the call is to fail.
-    pub(crate) fn fails(&mut self) -> bool
-        ensures answer { result ≡ is_bad (due (entries self.old.bytes.items self.old.taken)) }
-        ensures after { entries self.new.bytes.items self.new.taken ≡ later (entries self.old.bytes.items self.old.taken) }
+    // Takes the next entry off the plan: a fault of this call if it is to fail.
+    pub(crate) fn pass(&mut self, kind: Kind, place: usize) -> Result<(), DiskError>
+        ensures answer { result ≡ answer 1 kind place (by_entry (due (plan_of self.old))) }
+        ensures after { plan_of self.new ≡ later (plan_of self.old) }
     {
-        let at = self.taken;
-        if at >= self.bytes.len() {
-            return false;
+        match self.bytes.next() {
+            None | Some(GOOD) => Ok(()),
+            Some(_) => Err(DiskError::Fault(Fault {
+                kind,
+                place,
+                tries: 1,
+            })),
         }
-        let entry = self.bytes[at];
-        self.taken = at + 1;
-        entry != GOOD
     }
 
-    // The checks of a read or a write of `length` bytes on a disk of this size, and then its entry.
-    pub(crate) fn admit(
-        &mut self,
-        size: usize,
-        kind: Kind,
-        place: usize,
-        length: usize,
-    ) -> Result<(), DiskError>
-        ensures { Admits size (entries self.old.bytes.items self.old.taken) kind place length result (entries self.new.bytes.items self.new.taken) }
+    // The checks of a read or a write of a block on a disk of this size, and then its entry.
+    pub(crate) fn admit(&mut self, size: usize, kind: Kind, place: usize) -> Result<(), DiskError>
+        ensures { Admits size (plan_of self.old) kind place 512 result (plan_of self.new) }
     {
-        if length != BLOCK {
-            return Err(DiskError::Length);
-        }
         if place >= size {
             return Err(DiskError::Place);
         }
-        if self.fails() {
-            return Err(fault(kind, place));
-        }
-        Ok(())
-    }
-
-    // The bytes back.
-    pub(crate) fn into_bytes(self) -> Vec<u8>
-        ensures { result ≡ self.bytes }
-    {
-        let Plan { bytes, taken: _ } = self;
-        bytes
+        self.pass(kind, place)
     }
 }

@@ -6,12 +6,12 @@ ghost use Rattle.memdisk.specs.Soundness.{through_sound};
 
 use crate::blocks::Blocks;
 use crate::parts::parts;
-use crate::plan::{Plan, fault};
+use crate::plan::Plan;
 use crate::unusable::Unusable;
-use disk::disk::{BenchDisk, Disk};
+use disk::disk::{BLOCK, BenchDisk, Disk};
 use disk::error::{DiskError, Kind};
 
-// A disk on which every good write settles at once.
+// A disk on which every good write settles at once. It is a type of its own, since one with HeldDisk by a const parameter would have room for eight loose writes here too.
 #[derive(Drop)]
 pub struct ThroughDisk {
     blocks: Blocks,
@@ -50,28 +50,25 @@ impl Disk for ThroughDisk {
     }
 
     fn size(&self) -> usize {
-        self.blocks.count
+        self.blocks.count()
     }
 
     fn read(&mut self, place: usize, buffer: &mut [u8]) -> Result<(), DiskError> {
-        self.plan
-            .admit(self.blocks.count, Kind::Read, place, buffer.len())?;
-        self.blocks.load(place, buffer);
+        let block = buffer.as_mut_array::<BLOCK>().ok_or(DiskError::Length)?;
+        self.plan.admit(self.blocks.count(), Kind::Read, place)?;
+        *block = *self.blocks.load(place);
         Ok(())
     }
 
     fn write(&mut self, place: usize, bytes: &[u8]) -> Result<(), DiskError> {
-        self.plan
-            .admit(self.blocks.count, Kind::Write, place, bytes.len())?;
-        self.blocks.store(place, bytes);
+        let block = bytes.as_array::<BLOCK>().ok_or(DiskError::Length)?;
+        self.plan.admit(self.blocks.count(), Kind::Write, place)?;
+        self.blocks.store(place, block);
         Ok(())
     }
 
     fn flush(&mut self) -> Result<(), DiskError> {
-        if self.plan.fails() {
-            return Err(fault(Kind::Flush, 0));
-        }
-        Ok(())
+        self.plan.pass(Kind::Flush, 0)
     }
 }
 

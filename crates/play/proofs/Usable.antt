@@ -1,5 +1,5 @@
 -- The memory and the plan of a trace's disk make one.
-use Rattle.std.proofs.Common.{◌≡◌, ℕ, ◌/◌, ◌≤◌, Bool, true, false, cond, ◌&&◌, leb, List, [], ◌∷◌, length, replicate, refl, ap, ◌∙◌, arith}
+use Rattle.std.proofs.Common.{◌≡◌, ℕ, ◌/◌, ◌≤◌, true, false, cond, ◌&&◌, leb, List, [], ◌∷◌, length, replicate, refl, ap, ◌∙◌, arith}
 use Rattle.std.proofs.lemmas.List.{length-replicate}
 use Rattle.memdisk.specs.Memory.{whole_blocks}
 use Rattle.memdisk.specs.Memory as memory
@@ -11,13 +11,9 @@ use Rattle.disk.specs.Medium.{size}
 use Rattle.trace.specs.Format.{all_entries}
 use Rattle.play.specs.Plays.{blank_disk}
 
-both : (t a b : Bool) → a ≡ b → cond t a false ≡ (t && b)
-both true a b e = e
-both false a b e = refl
-
 same_entries : (plan : List ℕ) → memory.all_entries plan ≡ all_entries plan
 same_entries [] = refl
-same_entries (b ∷ bs) = both (leb b 1) (memory.all_entries bs) (all_entries bs) (same_entries bs)
+same_entries (b ∷ bs) = ap (λ t. leb b 1 && t) (same_entries bs)
 
 pub usable_blank : (plan : List ℕ) → all_entries plan ≡ true → usable (replicate 32768 0) plan ≡ true
 usable_blank plan e =

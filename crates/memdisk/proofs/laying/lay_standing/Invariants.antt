@@ -1,4 +1,4 @@
-use Rattle.std.proofs.Common.{◌≡◌, drop}
+use Rattle.std.proofs.Common.{◌≡◌, length, drop}
 use Rattle.disk.specs.Medium.{lay, standing}
 use Rattle.memdisk.specs.Parts.{blocks_of, writes_of}
 use Rattle.memdisk.proofs.laying.lay_standing.Given as goal
@@ -6,5 +6,5 @@ use Rattle.memdisk.proofs.laying.lay_standing.Given as goal
 -- the writes that are left give what all of them give
 abbrev pub invariant-loop-w : goal.invariant-loop-w
 invariant-loop-w l =
-    (l.blocks.count ≡ l.initial.blocks.count)
+    (length (blocks_of l.blocks) ≡ length (blocks_of l.initial.blocks))
     × (lay (blocks_of l.blocks) (standing l.bits (writes_of (drop l.w-index l.writes))) ≡ lay (blocks_of l.initial.blocks) (standing l.choice (writes_of l.writes)))
