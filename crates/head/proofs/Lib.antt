@@ -1,3 +1,3 @@
 pub mod RoundTrip
-pub mod Bytes
 pub mod Among
+pub mod Bytes
