@@ -1,3 +1,6 @@
+ghost use Rattle.std.specs.Prelude.{◌≤◌};
+ghost use Rattle.arrayvec.specs.ArrayVec.{array_vec_len};
+
 use crate::entry::Entry;
 use arrayvec::ArrayVec;
 use head::head::MOST_PLACES;
@@ -6,4 +9,5 @@ use head::head::MOST_PLACES;
 #[derive(Drop)]
 pub struct Batch {
     pub(crate) rows: ArrayVec<Entry, MOST_PLACES>,
+    ghost few: { array_vec_len rows ≤ 8 },
 }
