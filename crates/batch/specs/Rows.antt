@@ -1,11 +1,9 @@
 -- The writes of a batch, as the cache's model has them.
-use Rattle.std.specs.Prelude.{ℕ, suc, ◌+◌, ◌<◌, Bool, cond, List, [], ◌∷◌, map, take, Some, None, Option, ◌==◌}
+use Rattle.std.specs.Prelude.{ℕ, ◌+◌, cond, List, [], ◌∷◌, map}
 use Rattle.disk.specs.Medium.{Write}
 use Rattle.head.specs.Head.{holds}
 use Rattle.journal_law.specs.Cache.{Begun}
 use Rattle.batch.specs.declared.entry.Entry.{Entry}
-use Rattle.batch.specs.declared.entry.Query.{Query}
-use Rattle.batch.specs.declared.entry.Query.TheVariants as query
 use Rattle.batch.specs.declared.rows.Batch.{Batch}
 
 abbrev pub write_in : Entry → Write
@@ -22,7 +20,7 @@ abbrev pub no_entry : Entry
 no_entry = record { mark = 0; place = 0; bytes = [] }
 
 abbrev pub entries : Batch → List Entry
-entries b = take b.count b.rows
+entries b = b.rows.items
 
 -- a batch as writes with their begin marks, as writes, and as places
 abbrev pub begun_list : Batch → List Begun
@@ -33,19 +31,6 @@ write_list b = map write_in (entries b)
 
 abbrev pub place_list : Batch → List ℕ
 place_list b = map place_in (entries b)
-
-abbrev pub test : Query → Entry → Bool
-test (query.Mark m) e = e.mark == m
-test (query.Place p) e = e.place == p
-
--- the first row, counted from i, that passes
-abbrev pub first_from : ℕ → (Entry → Bool) → List Entry → Option ℕ
-first_from i p [] = None
-first_from i p (e ∷ es) = cond (p e) (Some i) (first_from (suc i) p es)
-
-abbrev pub Within : ℕ → Option ℕ → Type 0
-Within n None = Unit {0}
-Within n (Some i) = i < n
 
 -- how many of the places are not among the others
 abbrev pub outside : List ℕ → List ℕ → ℕ

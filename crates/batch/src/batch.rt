@@ -1,12 +1,13 @@
-ghost use Rattle.std.specs.Prelude.{◌≡◌, ◌<◌, false, [], ◌∷◌, ◌++◌, length, take, slice_index_or};
+ghost use Rattle.std.specs.Prelude.{◌≡◌, ◌==◌, ◌<◌, false, [], ◌∷◌, ◌++◌, length, position, slice_index_or};
 ghost use Rattle.std.specs.Option.{option_map};
 ghost use Rattle.head.specs.Head.{holds as among};
 ghost use Rattle.journal_law.specs.Cache.{find as found_open, without, collect as collected, cached};
-ghost use Rattle.batch.specs.Rows.{no_entry, entries, begun_list, write_list, place_list, begun_in, write_in, test, first_from, Within, outside as places_outside};
+ghost use Rattle.batch.specs.Rows.{no_entry, entries, begun_list, write_list, place_list, place_in, begun_in, write_in, outside as places_outside};
 ghost use Rattle.batch.specs.Options.{maybe};
 
-use crate::entry::{Entry, Query};
+use crate::entry::Entry;
 use crate::rows::Batch;
+use arrayvec::ArrayVec;
 use disk::disk::BLOCK;
 use head::head::MOST_PLACES;
 
@@ -15,55 +16,44 @@ impl Batch {
         ensures { entries result ≡ [] }
     {
         Batch {
-            rows: [Entry {
-                mark: 0,
-                place: 0,
-                bytes: [0; BLOCK],
-            }; MOST_PLACES],
-            count: 0,
+            rows: ArrayVec::new(),
         }
     }
 
     pub fn len(&self) -> usize
         ensures { result ≡ length (entries self.now) }
     {
-        self.count
+        self.rows.len()
     }
 
-    // The first row that the query passes.
-    fn position(&self, query: Query) -> Option<usize>
-        ensures row { result ≡ first_from 0 (test query) (entries self.now) }
-        ensures within { Within self.now.count result }
+    // The first row at the place.
+    fn row(&self, place: usize) -> Option<usize>
+        ensures { result ≡ position (λ e. place_in e == place) (entries self.now) }
     {
-        for i in 0..self.count {
-            if query.passes(&self.rows[i]) {
-                return Some(i);
-            }
-        }
-        None
+        self.rows.iter().position(|entry| entry.place == place)
     }
 
     // Whether some write is at the place.
     pub fn holds(&self, place: usize) -> bool
         ensures { result ≡ among place (place_list self.now) }
     {
-        self.position(Query::Place(place)).is_some()
+        self.row(place).is_some()
     }
 
     // The i-th write.
-    pub fn entry(&self, i: usize) -> Entry
-        requires { i < self.now.count }
-        ensures { result ≡ slice_index_or (entries self.now) i no_entry }
+    pub fn entry(&self, i: usize) -> &Entry
+        requires { i < length (entries self.now) }
+        ensures { result.now ≡ slice_index_or (entries self.now) i no_entry }
     {
-        self.rows[i]
+        &self.rows[i]
     }
 
     // The bytes of the write at the place.
-    pub fn bytes_at(&self, place: usize) -> Option<[u8; BLOCK]>
-        ensures { maybe result ≡ cached place (write_list self.now) }
+    pub fn bytes_at(&self, place: usize) -> Option<&[u8; BLOCK]>
+        ensures { maybe (option_map (λ b. b.now) result) ≡ cached place (write_list self.now) }
     {
-        let row = self.position(Query::Place(place))?;
-        Some(self.rows[row].bytes)
+        let row = self.row(place)?;
+        Some(&self.rows[row].bytes)
     }
 
     // One more write, behind the others.
@@ -71,15 +61,14 @@ impl Batch {
         requires { length (entries self.old) < 8 }
         ensures { entries self.new ≡ entries self.old ++ entry ∷ [] }
     {
-        self.rows[self.count] = entry;
-        self.count += 1;
+        self.rows.push(entry);
     }
 
     // Every write leaves the batch.
     pub fn clear(&mut self)
         ensures { entries self.new ≡ [] }
     {
-        self.count = 0;
+        self.rows.clear();
     }
 
     // The write with the mark leaves the batch; those behind it move up.
@@ -87,11 +76,8 @@ impl Batch {
         ensures taken { maybe (option_map begun_in result) ≡ found_open mark (begun_list self.old) }
         ensures rest { begun_list self.new ≡ without mark (begun_list self.old) }
     {
-        let row = self.position(Query::Mark(mark))?;
-        let entry = self.rows[row];
-        self.rows.copy_within(row + 1..self.count, row);
-        self.count -= 1;
-        Some(entry)
+        let row = self.rows.iter().position(|entry| entry.mark == mark)?;
+        Some(self.rows.remove(row))
     }
 
     // A write at a place that is held takes that row; any other comes behind the rest.
@@ -99,19 +85,19 @@ impl Batch {
         requires { among entry.place (place_list self.old) ≡ false → length (entries self.old) < 8 }
         ensures { write_list self.new ≡ collected (write_in entry) (write_list self.old) }
     {
-        match self.position(Query::Place(entry.place)) {
+        match self.row(entry.place) {
             Some(row) => self.rows[row] = entry,
             None => self.push(entry),
         }
     }
 
     // The places, in order.
-    pub fn places(&self) -> [usize; MOST_PLACES]
-        ensures { take self.now.count result ≡ place_list self.now }
+    pub fn places(&self) -> ArrayVec<usize, MOST_PLACES>
+        ensures { result.items ≡ place_list self.now }
     {
-        let mut places = [0; MOST_PLACES];
-        for i in 0..self.count {
-            places[i] = self.rows[i].place;
+        let mut places = ArrayVec::new();
+        for entry in self.rows.as_slice() {
+            places.push(entry.place);
         }
         places
     }
@@ -120,12 +106,9 @@ impl Batch {
     pub fn outside(&self, other: &Batch) -> usize
         ensures { result ≡ places_outside (place_list self.now) (place_list other.now) }
     {
-        let mut found = 0;
-        for i in 0..self.count {
-            if !other.holds(self.rows[i].place) {
-                found += 1;
-            }
-        }
-        found
+        self.rows
+            .iter()
+            .filter(|entry| !other.holds(entry.place))
+            .count()
     }
 }

@@ -1,13 +1,13 @@
-ghost use Rattle.std.specs.Prelude.{◌≡◌, ◌≤◌, length};
+ghost use Rattle.std.specs.Prelude.{◌≤◌};
+ghost use Rattle.arrayvec.specs.ArrayVec.{array_vec_len};
 
 use crate::entry::Entry;
+use arrayvec::ArrayVec;
 use head::head::MOST_PLACES;
 
-// The rows below the count are held, in the order in which they came.
-#[derive(Clone, Copy)]
+// The writes are held in the order in which they came.
+#[derive(Drop)]
 pub struct Batch {
-    pub(crate) rows: [Entry; MOST_PLACES],
-    pub(crate) count: usize,
-    ghost few: { count ≤ 8 },
-    ghost full: { length rows ≡ 8 },
+    pub(crate) rows: ArrayVec<Entry, MOST_PLACES>,
+    ghost few: { array_vec_len rows ≤ 8 },
 }

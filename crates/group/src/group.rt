@@ -8,7 +8,7 @@ use batch::rows::Batch;
 use head::head::Head;
 
 // The writes that were collected at a sealing, with its number.
-#[derive(Clone, Copy)]
+#[derive(Drop)]
 pub struct Group {
     pub number: u32,
     pub writes: Batch,
@@ -19,6 +19,6 @@ impl Group {
     pub fn head(&self) -> Head
         ensures { head_of result ≡ group_head (group_of self.now phase.Head) }
     {
-        Head::new(self.number, self.writes.places(), self.writes.len())
+        Head::new(self.number, self.writes.places())
     }
 }

@@ -1,5 +1,6 @@
-ghost use Rattle.std.specs.Prelude.{◌≡◌, ◌≤◌, true};
+ghost use Rattle.std.specs.Prelude.{◌≡◌, ◌≤◌, true, length};
 ghost use Rattle.journal_law.specs.Cache.{phase_call};
+ghost use Rattle.batch.specs.Rows.{entries};
 ghost use Rattle.group.specs.Phases.{phase_of, in_turn};
 ghost use Rattle.group.specs.Groups.{group_of, Makes};
 
@@ -17,7 +18,7 @@ pub fn make<D: Disk>(
     phase: Phase,
 ) -> Result<(), DiskError>
     requires room { home ≤ 4087 }
-    requires turn { in_turn phase group.now.writes.count ≡ true }
+    requires turn { in_turn phase (length (entries group.now.writes)) ≡ true }
     ensures { Makes (D.rule disk.old) D.attempts (phase_call home (group_of group.now phase) (phase_of phase)) (D.medium disk.old) result (D.medium disk.new) }
 {
     match phase {

@@ -1,33 +1,35 @@
 -- A block that is filled from the front, and places that are read from it in turn.
-use Rattle.std.proofs.Common.{◌≡◌, ℕ, zero, suc, ◌+◌, ◌-◌, ◌*◌, ◌/◌, ◌%◌, ◌<◌, ◌≤◌, Bool, true, false, cond, not, ◌&&◌, ltb, leb, List, [], ◌∷◌, ◌++◌, length, get_or, take, drop, set, replicate, Decides, sym, refl, ap, ◌∙◌, subst, add-one, arith}
+use Rattle.std.proofs.Common.{◌≡◌, ℕ, zero, suc, ◌+◌, ◌-◌, ◌*◌, ◌/◌, ◌<◌, ◌≤◌, Bool, true, false, cond, ◌&&◌, ltb, leb, List, [], ◌∷◌, ◌++◌, length, get_or, take, drop, replicate, Decides, sym, refl, ap, ◌∙◌, subst, add-one, Option, arith}
 use mathlib.Core.Option.{Option as Maybe, some, none}
-use Rattle.std.proofs.lemmas.List.{length-append, length_push, length-take-le, length-replicate, append_assoc, at_drop_more, take_rest, set-append_right, take_more, take_more_set, get_or-drop}
+use Rattle.std.proofs.lemmas.List.{length-append, length-take-le, length-replicate, length-drop, append_assoc, take_more, take_all, take_at, drop_at, drop-drop, drop-replicate, get_or-take, get_or-drop}
+use borrow.Rule.Slice.PartMut.{put_mid, mid_of}
+use Rattle.std.specs.Simd.{first_chunks}
+use Rattle.std.specs.Int.{w16, from_le_bytes}
 use Rattle.std.proofs.lemmas.Slice.Eq.{compares_Decides}
 use Rattle.std.proofs.lemmas.Bool.{and_parts, le-leb, leb-true, lt-ltb}
 use Rattle.head.specs.Head as model
 use Rattle.head.specs.Head.{place_bytes, places_read, two_bytes, four_bytes, sections, encode, decode, candidate, fits, same_bytes, all_below, none_twice}
 use Rattle.head.proofs.RoundTrip.{decode_encode, decode_sound}
 use Rattle.head.specs.declared.head.Head.{Head}
-use Rattle.head.specs.Codes.{head_of}
+use Rattle.std.specs.Bool.{then_some}
+use Rattle.head.specs.Codes.{head_of, found}
 
 -- bytes and then zeros, to a whole block
 abbrev pub padded : List ℕ → List ℕ
 padded xs = xs ++ replicate (512 - length xs) 0
 
-set_zeros : (k n b : ℕ) → n ≡ suc k → set (replicate n 0) 0 b ≡ b ∷ replicate k 0
-set_zeros k n b e = ap (λ x. set (replicate x 0) 0 b) e
-
--- the next byte
-pub padded_set : (xs : List ℕ) (i b : ℕ) → length xs ≡ i → i < 512 → set (padded xs) i b ≡ padded (xs ++ b ∷ [])
-padded_set xs i b e l =
-    set-append_right xs (replicate (512 - length xs) 0) i i b e (omega arith)
-    ∙ ap (λ x. xs ++ set (replicate (512 - length xs) 0) x b) (let z : i - i ≡ 0 = omega arith in z)
-    ∙ ap (λ ys. xs ++ ys) (set_zeros (512 - length (xs ++ b ∷ [])) (512 - length xs) b (omega (arith, length_push xs b)))
-    ∙ sym (append_assoc xs (b ∷ []) (replicate (512 - length (xs ++ b ∷ [])) 0))
+-- the next bytes
+pub padded_put : (xs ys : List ℕ) (a k : ℕ) → length xs ≡ a → length ys ≡ k → a + k ≤ 512 → put_mid a k (padded xs) ys ≡ padded (xs ++ ys)
+padded_put xs ys a k e f l =
+    ap (λ zs. zs ++ (ys ++ drop k (drop a (padded xs)))) (take_at xs (replicate (512 - length xs) 0) a e)
+    ∙ ap (λ zs. xs ++ (ys ++ drop k zs)) (drop_at xs (replicate (512 - length xs) 0) a e)
+    ∙ ap (λ zs. xs ++ (ys ++ zs)) (drop-replicate k (512 - length xs) 0)
+    ∙ ap (λ n. xs ++ (ys ++ replicate n 0)) (let q : 512 - length xs - k ≡ 512 - length (xs ++ ys) = omega (arith, length-append xs ys) in q)
+    ∙ sym (append_assoc xs ys (replicate (512 - length (xs ++ ys)) 0))
 
 -- the sections of a head with its first i places
 abbrev pub front : Head → ℕ → List ℕ
-front h i = 1 ∷ four_bytes h.number ++ (h.count ∷ place_bytes (take i h.places))
+front h i = 1 ∷ four_bytes h.number ++ (length h.places.items ∷ place_bytes (take i h.places.items))
 
 length_place_bytes : (ps : List ℕ) → length (place_bytes ps) ≡ 2 * length ps
 length_place_bytes [] = refl
@@ -37,28 +39,22 @@ place_bytes_push : (ps : List ℕ) (p : ℕ) → place_bytes (ps ++ p ∷ []) �
 place_bytes_push [] p = refl
 place_bytes_push (x ∷ ps) p = ap (λ bs. two_bytes x ++ bs) (place_bytes_push ps p)
 
-module _ (h : Head) (i : ℕ) (l : i < length h.places) where
-  length_front : length (front h i) ≡ 6 + 2 * i
-  length_front = omega (arith, length_place_bytes (take i h.places), length-take-le i h.places (omega arith))
-
-  -- one place more
-  pub front_more : i < 8 → (a b : ℕ) → a ≡ 6 + 2 * i → b ≡ 7 + 2 * i →
-      set (set (padded (front h i)) a (get_or h.places i 0 % 256)) b (get_or h.places i 0 / 256 % 256) ≡ padded (front h (i + 1))
-  front_more few a b ea eb =
-      ap (λ bs. set bs b (p / 256 % 256)) (padded_set (front h i) a (p % 256) (length_front ∙ sym ea) (omega arith))
-      ∙ padded_set (front h i ++ (p % 256) ∷ []) b (p / 256 % 256) (omega (arith, length_push (front h i) (p % 256), length_front)) (omega arith)
-      ∙ ap padded (append_assoc (front h i) ((p % 256) ∷ []) ((p / 256 % 256) ∷ []) ∙ more)
-    where
-      p : ℕ
-      p = get_or h.places i 0
-
-      more : front h i ++ two_bytes p ≡ front h (i + 1)
-      more = ap (λ bs. 1 ∷ four_bytes h.number ++ (h.count ∷ bs)) (sym (place_bytes_push (take i h.places) p) ∙ ap place_bytes (sym (take_more h.places i 0 l)))
+-- one place more
+pub front_more : (h : Head) (i k : ℕ) (bs : List ℕ) → i < length h.places.items → length h.places.items ≤ 8 → k ≡ 2 → bs ≡ two_bytes (get_or h.places.items i 0) →
+    put_mid (6 + 2 * i) k (padded (front h i)) bs ≡ padded (front h (i + 1))
+front_more h i k bs l few e f =
+    padded_put (front h i) bs (6 + 2 * i) k
+    (omega (arith, length_place_bytes (take i h.places.items), length-take-le i h.places.items (omega arith)))
+    (ap length f ∙ sym e)
+    (omega arith)
+    ∙ ap (λ ys. padded (front h i ++ ys)) f
+    ∙ ap (λ ys. padded (1 ∷ four_bytes h.number ++ (length h.places.items ∷ ys)))
+    (sym (place_bytes_push (take i h.places.items) (get_or h.places.items i 0)) ∙ ap place_bytes (sym (take_more h.places.items i 0 l)))
 
 -- all of them
-pub front_whole : (h : Head) → h.count ≤ length h.places → padded (front h h.count) ≡ encode (head_of h)
+pub front_whole : (h : Head) (i : ℕ) → length h.places.items ≤ i → padded (front h i) ≡ encode (head_of h)
 unfolding encode
-front_whole h few = ap (λ n. padded (1 ∷ four_bytes h.number ++ (n ∷ place_bytes (take h.count h.places)))) (sym (length-take-le h.count h.places few))
+front_whole h i all = ap (λ ps. padded (1 ∷ four_bytes h.number ++ (length h.places.items ∷ place_bytes ps))) (take_all i h.places.items all)
 
 -- one place more is read
 read_suc : (i : ℕ) (bs : List ℕ) → places_read (suc i) bs ≡ places_read i bs ++ (get_or bs (2 * i) 0 + 256 * get_or bs (2 * i + 1) 0) ∷ []
@@ -69,18 +65,32 @@ read_suc (suc i) bs = ap (λ ps. (get_or bs 0 0 + 256 * get_or bs 1 0) ∷ ps)
     (ap (λ x. x + 256 * get_or (drop 2 bs) (2 * i + 1) 0) (get_or-drop 2 bs (2 * i) 0 ∙ ap (λ k. get_or bs k 0) (let e : 2 + 2 * i ≡ 2 * suc i = omega arith in e))
     ∙ ap (λ x. get_or bs (2 * suc i) 0 + 256 * x) (get_or-drop 2 bs (2 * i + 1) 0 ∙ ap (λ k. get_or bs k 0) (let e : 2 + (2 * i + 1) ≡ 2 * suc i + 1 = omega arith in e))))
 
-pub read_more : (i : ℕ) (bs : List ℕ) → places_read (i + 1) bs ≡ places_read i bs ++ (get_or bs (2 * i) 0 + 256 * get_or bs (2 * i + 1) 0) ∷ []
-read_more i bs = ap (λ n. places_read n bs) (add-one i) ∙ read_suc i bs
+-- the pairs of a block, and the places in them
+pair_at : (n i : ℕ) (bs d : List ℕ) → i < n → get_or (first_chunks 2 n bs) i d ≡ take 2 (drop (2 * i) bs)
+pair_at zero i bs d l = absurd (omega arith)
+pair_at (suc n) zero bs d l = refl
+pair_at (suc n) (suc i) bs d l =
+    pair_at n i (drop 2 bs) d (omega arith) ∙ ap (take 2) (drop-drop (2 * i) 2 bs ∙ ap (λ k. drop k bs) (let e : 2 + 2 * i ≡ 2 * suc i = omega arith in e))
 
-pub placed : (ps block : List ℕ) (i v : ℕ) → i < length ps → take i ps ≡ places_read i (drop 6 block) →
-    v ≡ get_or block (6 + 2 * i) 0 + 256 * get_or block (7 + 2 * i) 0 → take (i + 1) (set ps i v) ≡ places_read (i + 1) (drop 6 block)
-placed ps block i v l e w =
-    take_more_set ps i v l ∙ ap (λ xs. xs ++ v ∷ []) e ∙ ap (λ x. places_read i (drop 6 block) ++ x ∷ []) value ∙ sym (read_more i (drop 6 block))
+-- so many pairs are in a block behind its first six bytes
+pub pairs_in : (block : List ℕ) → length block ≡ 512 → first_chunks 2 (length (mid_of 6 506 block) / 2) (mid_of 6 506 block) ≡ first_chunks 2 253 (drop 6 block)
+pairs_in block whole =
+    ap (λ bs. first_chunks 2 (length bs / 2) bs) (take_all 506 (drop 6 block) (omega (arith, length-drop 6 block)))
+    ∙ ap (λ n. first_chunks 2 n (drop 6 block)) (let e : length (drop 6 block) / 2 ≡ 253 = omega (arith, length-drop 6 block) in e)
+
+two_worth : (xs : List ℕ) → from_le_bytes w16 xs ≡ get_or xs 0 0 + 256 * get_or xs 1 0
+two_worth xs = omega arith
+
+pub read_more : (n i v : ℕ) (bs ps d : List ℕ) → i < n → ps ≡ places_read i bs →
+    v ≡ from_le_bytes w16 (get_or (first_chunks 2 n bs) i d) → ps ++ v ∷ [] ≡ places_read (i + 1) bs
+read_more n i v bs ps d l e f =
+    ap (λ x. x ++ v ∷ []) e ∙ ap (λ x. places_read i bs ++ x ∷ []) (f ∙ ap (from_le_bytes w16) (pair_at n i bs d l) ∙ worth) ∙ sym (ap (λ k. places_read k bs) (add-one i) ∙ read_suc i bs)
   where
-    value : v ≡ get_or (drop 6 block) (2 * i) 0 + 256 * get_or (drop 6 block) (2 * i + 1) 0
-    value = w
-        ∙ ap (λ x. x + 256 * get_or block (7 + 2 * i) 0) (sym (get_or-drop 6 block (2 * i) 0))
-        ∙ ap (λ x. get_or (drop 6 block) (2 * i) 0 + 256 * x) (ap (λ k. get_or block k 0) (let q : 7 + 2 * i ≡ 6 + (2 * i + 1) = omega arith in q) ∙ sym (get_or-drop 6 block (2 * i + 1) 0))
+    worth : from_le_bytes w16 (take 2 (drop (2 * i) bs)) ≡ get_or bs (2 * i) 0 + 256 * get_or bs (2 * i + 1) 0
+    worth =
+        two_worth (take 2 (drop (2 * i) bs))
+        ∙ omega (arith, get_or-take 2 (drop (2 * i) bs) 0 0 (omega arith), get_or-take 2 (drop (2 * i) bs) 1 0 (omega arith), get_or-drop (2 * i) bs 0 0,
+        get_or-drop (2 * i) bs 1 0, ap (λ k. get_or bs k 0) (let e : 2 * i + 0 ≡ 2 * i = omega arith in e))
 
 pub candidate_is : (h : model.Head) (block : List ℕ) →
     h.number ≡ get_or block 1 0 + (256 * get_or block 2 0 + (65_536 * get_or block 3 0 + 16_777_216 * get_or block 4 0)) →
@@ -158,9 +168,9 @@ decoded n b o e = record {
   every_head = λ h small is f. e ∙ ap (decode n) is ∙ decode_encode n h small f;
 }
 
--- a place is left out of its own list, or not
-pub different_by : (ps : List ℕ) (i : ℕ) (t : Bool) → i < length ps → t ≡ model.holds (get_or ps i 0) (take (length ps - (i + 1)) (drop (i + 1) ps)) →
-    none_twice (drop i ps) ≡ (not t && none_twice (drop (i + 1) ps))
-different_by ps i t l e =
-    at_drop_more none_twice ps i 0 l
-    ∙ ap (λ u. not u && none_twice (drop (i + 1) ps)) (sym (e ∙ ap (model.holds (get_or ps i 0)) (take_rest ps (i + 1))))
+pub found_if : (t : Bool) (x : Head) (o : Option Head) → o ≡ then_some t x → found o ≡ cond t (some (head_of x)) none
+found_if t x o e = ap found e ∙ go t
+  where
+    go : (t : Bool) → found (then_some t x) ≡ cond t (some (head_of x)) none
+    go true = refl
+    go false = refl

@@ -1,2 +1,3 @@
 pub mod RoundTrip
+pub mod Among
 pub mod Bytes

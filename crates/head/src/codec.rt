@@ -1,10 +1,11 @@
-ghost use Rattle.std.specs.Prelude.{◌≡◌, ℕ, ◌<◌, ◌≤◌, true, [], length, take, slice_index};
+ghost use Rattle.std.specs.Prelude.{◌≡◌, ℕ, ◌<◌, ◌≤◌, true, [], length, slice_index};
 ghost use Rattle.std.proofs.Math.Option.{some};
-ghost use Rattle.head.specs.Head.{Head as ModelHead, encode as encoded, decode as decoded, candidate as read_as, fits as fitting};
+ghost use Rattle.head.specs.Head.{Head as ModelHead, two_bytes, encode as encoded, decode as decoded, candidate as read_as, fits as fitting};
 ghost use Rattle.head.specs.Codes.{head_of, found};
 
 use crate::head::{Head, MOST_PLACES};
 use crate::places::{are_below, are_different};
+use arrayvec::ArrayVec;
 use disk::disk::BLOCK;
 
 impl Head {
@@ -14,45 +15,37 @@ impl Head {
     {
         Head {
             number,
-            places: [0; MOST_PLACES],
-            count: 0,
+            places: ArrayVec::new(),
         }
     }
 
-    // A head of the first places of these.
-    pub fn new(number: u32, places: [usize; MOST_PLACES], count: usize) -> Head
-        requires { count ≤ 8 }
-        ensures value { head_of result ≡ record { number = number; places = take count places } }
-        ensures count { result.count ≡ count }
+    // A head of these places.
+    pub fn new(number: u32, places: ArrayVec<usize, MOST_PLACES>) -> Head
+        ensures { head_of result ≡ record { number = number; places = places.items } }
     {
-        Head {
-            number,
-            places,
-            count,
-        }
+        Head { number, places }
     }
 
     // The home places.
     pub fn places(&self) -> &[usize]
         ensures { result.now ≡ (head_of self.now).places }
     {
-        &self.places[..self.count]
+        self.places.as_slice()
     }
 
     // How many they are.
     pub fn len(&self) -> usize
-        ensures count { result ≡ self.now.count }
-        ensures length { result ≡ length (head_of self.now).places }
+        ensures { result ≡ length (head_of self.now).places }
     {
-        self.places().len()
+        self.places.len()
     }
 
     // The i-th home place.
     pub fn place(&self, i: usize) -> usize
-        requires { i < self.now.count }
+        requires { i < length (head_of self.now).places }
         ensures { result ≡ slice_index (head_of self.now).places i }
     {
-        self.places()[i]
+        self.places[i]
     }
 
     // Whether the head can stand on a volume of so many home blocks.
@@ -68,36 +61,35 @@ impl Head {
         ensures read_back { (n : ℕ) → n ≤ 65536 → fitting n (head_of self.now) ≡ true → decoded n result ≡ some (head_of self.now) }
     {
         let mut block = [0u8; BLOCK];
-        let number = self.number;
         block[0] = 1;
-        block[1] = (number % 256) as u8;
-        block[2] = (number / 256 % 256) as u8;
-        block[3] = (number / 65_536 % 256) as u8;
-        block[4] = (number / 16_777_216 % 256) as u8;
-        block[5] = self.count as u8;
-        for i in 0..self.count {
-            let place = self.places[i];
-            block[6 + 2 * i] = (place % 256) as u8;
-            block[7 + 2 * i] = (place / 256 % 256) as u8;
+        block[1..5].copy_from_slice(&self.number.to_le_bytes());
+        block[5] = self.len() as u8;
+        for (i, place) in self.places().iter().enumerate() {
+            block[6 + 2 * i..8 + 2 * i].copy_from_slice(&low_bytes(*place));
         }
         block
     }
 }
 
+// The two bytes of a place; what they cannot hold is left out, and no place of a fitting head has more.
+fn low_bytes(place: usize) -> [u8; 2]
+    ensures { result ≡ two_bytes place }
+{
+    ((place % 65_536) as u16).to_le_bytes()
+}
+
 // What the bytes of a block would say if they were a head.
-fn candidate(block: &[u8]) -> Head
-    requires whole { length block.now ≡ 512 }
-    requires few { slice_index block.now 5 ≤ 8 }
+fn candidate(block: &[u8; BLOCK]) -> Head
+    requires { slice_index block.now 5 ≤ 8 }
     ensures { head_of result ≡ read_as block.now }
 {
-    let number = block[1] as u32
-        + (256 * block[2] as u32 + (65_536 * block[3] as u32 + 16_777_216 * block[4] as u32));
-    let count = block[5] as usize;
-    let mut places = [0usize; MOST_PLACES];
-    for i in 0..count {
-        places[i] = block[6 + 2 * i] as usize + 256 * block[7 + 2 * i] as usize;
+    let number = u32::from_le_bytes([block[1], block[2], block[3], block[4]]);
+    let mut places = ArrayVec::new();
+    let (pairs, _) = block[6..].as_chunks::<2>();
+    for pair in &pairs[..usize::from(block[5])] {
+        places.push(usize::from(u16::from_le_bytes(*pair)));
     }
-    Head::new(number, places, count)
+    Head::new(number, places)
 }
 
 // The head in a block, on a volume of so many home blocks; none where the block is not the encoding of a head that fits.
@@ -106,13 +98,12 @@ pub fn decode(home: usize, block: &[u8]) -> Option<Head>
     ensures no_other { (h : ModelHead) → found result ≡ some h → (block.now ≡ encoded h) × (fitting home h ≡ true) }
     ensures every_head { (h : ModelHead) → home ≤ 65536 → block.now ≡ encoded h → fitting home h ≡ true → found result ≡ some h }
 {
-    if block.len() != BLOCK || block[5] as usize > MOST_PLACES {
+    let Ok(block) = <&[u8; BLOCK]>::try_from(block) else {
+        return None;
+    };
+    if usize::from(block[5]) > MOST_PLACES {
         return None;
     }
     let head = candidate(block);
-    if head.fits(home) && &head.encode()[..] == block {
-        Some(head)
-    } else {
-        None
-    }
+    (head.fits(home) && head.encode() == *block).then_some(head)
 }

@@ -1,37 +1,22 @@
 // What the places of a head must be.
 ghost use Rattle.std.specs.Prelude.{◌≡◌};
-ghost use Rattle.head.specs.Head.{holds, all_below, none_twice};
-
-// Is the place among these?
-pub(crate) fn is_among(place: usize, places: &[usize]) -> bool
-    ensures { result ≡ holds place places.now }
-{
-    for p in places {
-        if *p == place {
-            return true;
-        }
-    }
-    false
-}
+ghost use Rattle.head.specs.Head.{all_below, none_twice};
 
 pub(crate) fn are_below(places: &[usize], home: usize) -> bool
     ensures { result ≡ all_below home places.now }
 {
-    for p in places {
-        if *p >= home {
-            return false;
-        }
-    }
-    true
+    places.iter().all(|place| *place < home)
 }
 
 pub(crate) fn are_different(places: &[usize]) -> bool
     ensures { result ≡ none_twice places.now }
 {
-    for i in 0..places.len() {
-        if is_among(places[i], &places[i + 1..]) {
+    let mut rest = places;
+    while let [first, others @ ..] = rest {
+        if others.contains(first) {
             return false;
         }
+        rest = others;
     }
     true
 }

@@ -151,7 +151,7 @@ module _ (device : Device) (v : Live) where
   pub seal_10 : is_some v.group ≡ false → eqb (length v.collected) 0 ≡ false → leb 4_294_967_295 v.last ≡ true → seal_refusal_of error.NoNumbers ≡ outcome device v seal
   seal_10 p q r = seal_is false false true p q r
 
-  pub seal_0 : is_some v.group ≡ false → eqb (length v.collected) 0 ≡ false → leb 4_294_967_295 v.last ≡ false → (batch : List Write) → batch ≡ [] →
+  pub seal_0 : is_some v.group ≡ false → eqb (length v.collected) 0 ≡ false → leb 4_294_967_295 v.last ≡ false → (batch ws : List Write) → batch ≡ [] → ws ≡ v.collected →
       record {
         answer = accepted (v.last + 1);
         live = record {
@@ -160,19 +160,31 @@ module _ (device : Device) (v : Live) where
           counter = v.counter;
           open_writes = v.open_writes;
           collected = batch;
-          group = some (record { number = v.last + 1; writes = v.collected; phase = slot 0 });
+          group = some (record { number = v.last + 1; writes = ws; phase = slot 0 });
           last = v.last + 1;
         };
       } ≡ outcome device v seal
-  seal_0 p q r batch e =
-      ap (λ (ws : List Write). record {
+  seal_0 p q r batch ws e f =
+      ap (λ (xs : List Write). record {
         answer = accepted (v.last + 1);
         live = record {
           medium = v.medium;
           home_count = v.home_count;
           counter = v.counter;
           open_writes = v.open_writes;
-          collected = ws;
+          collected = batch;
+          group = some (record { number = v.last + 1; writes = xs; phase = slot 0 });
+          last = v.last + 1;
+        };
+      }) f
+      ∙ ap (λ (xs : List Write). record {
+        answer = accepted (v.last + 1);
+        live = record {
+          medium = v.medium;
+          home_count = v.home_count;
+          counter = v.counter;
+          open_writes = v.open_writes;
+          collected = xs;
           group = some (record { number = v.last + 1; writes = v.collected; phase = slot 0 });
           last = v.last + 1;
         };

@@ -8,11 +8,13 @@ ghost use Rattle.journal.specs.Model.{model, does, marked, done};
 
 use crate::live::Live;
 use batch::entry::Entry;
+use batch::rows::Batch;
 use disk::disk::{BLOCK, BenchDisk};
 use errors::CacheError;
 use group::group::Group;
 use group::phase::Phase;
 use head::head::MOST_PLACES;
+use std::mem;
 
 pub const LAST_MARK: u32 = 1_000_000;
 
@@ -39,9 +41,9 @@ impl<D: BenchDisk> Live<D> {
         ensures outcome { record { answer = marked result; live = model D.Disk.medium self.new } ≡ does D.Disk.medium D.Disk.rule D.Disk.attempts self.old (begin_call place bytes.now) }
         ensures runs { RunsOn (begin_call place bytes.now) (model D.Disk.medium self.old) (marked result) (model D.Disk.medium self.new) }
     {
-        if bytes.len() != BLOCK {
+        let Ok(block) = <&[u8; BLOCK]>::try_from(bytes) else {
             return Err(CacheError::Length);
-        }
+        };
         if place >= self.home {
             return Err(CacheError::Place);
         }
@@ -55,7 +57,7 @@ impl<D: BenchDisk> Live<D> {
             return Err(CacheError::NoMarks);
         }
         let mark = self.counter + 1;
-        self.opens.push(Entry::new(mark, place, bytes));
+        self.opens.push(Entry::new(mark, place, block));
         self.counter = mark;
         Ok(mark)
     }
@@ -102,10 +104,9 @@ impl<D: BenchDisk> Live<D> {
         let number = self.last + 1;
         self.group = Group {
             number,
-            writes: self.collected,
+            writes: mem::replace(&mut self.collected, Batch::new()),
         };
         self.phase = Some(Phase::Slot(0));
-        self.collected.clear();
         self.last = number;
         Ok(number)
     }

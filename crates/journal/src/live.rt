@@ -1,7 +1,7 @@
-ghost use Rattle.std.specs.Prelude.{◌≡◌, ◌+◌, ◌≤◌, true, ◌++◌, map};
+ghost use Rattle.std.specs.Prelude.{◌≡◌, ◌+◌, ◌≤◌, true, ◌++◌, map, length};
 ghost use Rattle.head.specs.Head.{all_below, none_twice};
 ghost use Rattle.journal_law.specs.Cache.{place_of, begun_place, different};
-ghost use Rattle.batch.specs.Rows.{begun_list, write_list};
+ghost use Rattle.batch.specs.Rows.{entries, begun_list, write_list};
 ghost use Rattle.group.specs.Phases.{fitting};
 
 use batch::rows::Batch;
@@ -23,11 +23,11 @@ pub struct Live<D> {
     // the last number
     pub(crate) last: u32,
     ghost room: { home ≤ 4087 },
-    ghost marks: { counter + opens.count ≤ 1000000 },
+    ghost marks: { counter + length (entries opens) ≤ 1000000 },
     ghost inside: { all_below home (map begun_place (begun_list opens)) ≡ true },
     ghost apart: { none_twice (map begun_place (begun_list opens)) ≡ true },
     ghost below: { all_below home (map place_of (write_list collected)) ≡ true },
     ghost once: { none_twice (map place_of (write_list collected)) ≡ true },
     ghost places: { different home (map place_of (write_list collected) ++ map begun_place (begun_list opens)) ≤ 8 },
-    ghost turn: { fitting phase group.writes.count ≡ true },
+    ghost turn: { fitting phase (length (entries group.writes)) ≡ true },
 }

@@ -1,5 +1,6 @@
 // The read: what is collected, then the sealed group, then the disk.
 ghost use Rattle.std.specs.Prelude.{◌≡◌, ◌++◌, length};
+ghost use Rattle.std.specs.Option.{option_map};
 ghost use Rattle.journal_law.specs.Cache.{read as read_call, cached, group_writes};
 ghost use Rattle.journal_law.specs.Laws.{RunsOn};
 ghost use Rattle.batch.specs.Options.{maybe};
@@ -13,8 +14,8 @@ use errors::{CacheCall, CacheError, during};
 
 impl<D: BenchDisk> Live<D> {
     // The bytes that the cache itself holds for the place.
-    fn cached(&self, place: usize) -> Option<[u8; BLOCK]>
-        ensures { maybe result ≡ cached place (write_list self.now.collected ++ group_writes (under_way self.now.group self.now.phase)) }
+    fn cached(&self, place: usize) -> Option<&[u8; BLOCK]>
+        ensures { maybe (option_map (λ b. b.now) result) ≡ cached place (write_list self.now.collected ++ group_writes (under_way self.now.group self.now.phase)) }
     {
         if let Some(bytes) = self.collected.bytes_at(place) {
             return Some(bytes);
@@ -38,7 +39,7 @@ impl<D: BenchDisk> Live<D> {
             return Err(CacheError::Place);
         }
         if let Some(bytes) = self.cached(place) {
-            buffer.copy_from_slice(&bytes);
+            buffer.copy_from_slice(bytes);
             return Ok(());
         }
         during(CacheCall::Read, self.disk.read(place, buffer))

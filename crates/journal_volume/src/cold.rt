@@ -52,11 +52,10 @@ impl<D: BenchDisk> Cold<D> {
         ensures number { self.accepted ≡ with_number result.number }
     {
         let Cold { disk, accepted } = self;
-        let number = match accepted {
-            Some(number) => number,
-            None => 0,
-        };
-        Recovered { disk, number }
+        Recovered {
+            disk,
+            number: accepted.unwrap_or_default(),
+        }
     }
 
     // Writes the empty head of number 0 and flushes.

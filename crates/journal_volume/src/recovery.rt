@@ -1,5 +1,5 @@
 // The disk calls of recovery, part by part. Each part goes on from where the recovery stands, or ends it by a fault.
-ghost use Rattle.std.specs.Prelude.{◌≡◌, ◌+◌, ◌<◌, ◌≤◌, true};
+ghost use Rattle.std.specs.Prelude.{◌≡◌, ◌+◌, ◌<◌, ◌≤◌, true, length};
 ghost use Rattle.disk.specs.Medium.{size};
 ghost use Rattle.head.specs.Head.{fits as fitting};
 ghost use Rattle.head.specs.Codes.{head_of};
@@ -32,7 +32,7 @@ pub(crate) fn copy_slot<D: Disk>(
     requires sized { size (D.medium disk.old) ≡ home + 9 }
     requires room { home ≤ 4087 }
     requires fit { fitting home (head_of head.now) ≡ true }
-    requires in_turn { i < head.now.count }
+    requires in_turn { i < length (head_of head.now).places }
     ensures { Goes (OfRule D.rule) D.attempts home (at (read_slot i (head_of head.now)) (D.medium disk.old)) (turn (i + 1) (head_of head.now)) result (D.medium disk.new) }
 {
     let mut block = [0u8; BLOCK];

@@ -1,5 +1,6 @@
 // The journaled cache's writes and its group, followed.
-ghost use Rattle.std.specs.Prelude.{◌≡◌, true};
+ghost use Rattle.std.specs.Prelude.{◌≡◌, true, length};
+ghost use Rattle.batch.specs.Rows.{entries};
 ghost use Rattle.group.specs.Phases.{fitting};
 
 use batch::rows::Batch;
@@ -11,5 +12,5 @@ pub struct JournalWatch {
     pub(crate) collected: Batch,
     pub(crate) group: Batch,
     pub(crate) phase: Option<Phase>,
-    ghost turn: { fitting phase group.count ≡ true },
+    ghost turn: { fitting phase (length (entries group)) ≡ true },
 }

@@ -15,6 +15,7 @@ use group::phase::Phase;
 use group::turn::advance;
 use head::head::MOST_PLACES;
 use narration::deed::Deed;
+use std::mem;
 use trace::call::TraceCall;
 
 impl JournalWatch {
@@ -65,7 +66,7 @@ impl JournalWatch {
 
     // What the call of the phase writes.
     fn deed(&self, phase: Phase) -> Deed
-        requires { in_turn phase self.now.group.count ≡ true }
+        requires { in_turn phase (length (entries self.now.group)) ≡ true }
         ensures { result ≡ phase_deed (write_list self.now.group) phase }
     {
         match phase {
@@ -103,10 +104,8 @@ impl JournalWatch {
         ensures { followed self.new.opens self.new.collected self.new.group self.new.phase ≡ sealed (followed self.old.opens self.old.collected self.old.group self.old.phase) }
     {
         if self.collected.len() > 0 {
-            let collected = self.collected;
-            self.group = collected;
+            self.group = mem::replace(&mut self.collected, Batch::new());
             self.phase = Some(Phase::Slot(0));
-            self.collected.clear();
         }
     }
 

@@ -1,5 +1,4 @@
 use Rattle.std.proofs.Common.{◌≡◌, suc, ◌+◌, ◌<◌, true, length, sym, ap, ◌∙◌, subst, arith}
-use Rattle.std.proofs.lemmas.List.{length-take-le}
 use Rattle.std.proofs.lemmas.Bool.{ltb-true}
 use Rattle.disk.specs.Medium.{Write}
 use Rattle.journal_law.specs.Cache.{nth, phase_call}
@@ -20,11 +19,10 @@ returns-in-Slot g c =
     let i = c.in-Slot.i in
     let m = g.D.Disk.medium disk in
     let m' = g.D.Disk.medium c.write.new.self in
-    let lt : i < b.count = ltb-true i b.count (subst (λ (p : Phase). in_turn p b.count ≡ true) c.in-Slot.is c.requires.turn) in
-    let count : length (entries b) ≡ b.count = length-take-le b.count b.rows (omega (arith, b.few, b.full)) in
-    let bytes = ap (λ (e : Entry). e.bytes) c.entry.ensures ∙ sym (ap (λ (w : Write). w.bytes) (nth_entry (entries b) i (omega (arith, count, lt)))) in
+    let lt : i < length (entries b) = ltb-true i (length (entries b)) (subst (λ (p : Phase). in_turn p (length (entries b)) ≡ true) c.in-Slot.is c.requires.turn) in
+    let bytes = ap (λ (e : Entry). e.bytes) c.entry.ensures ∙ sym (ap (λ (w : Write). w.bytes) (nth_entry (entries b) i lt)) in
     let w : Write = record { place = suc n + i; bytes = (nth (write_list b) i).bytes } in
-    let w' : Write = record { place = n + 1 + i; bytes = c.entry.result.bytes } in
+    let w' : Write = record { place = n + 1 + i; bytes = c.entry.result.now.bytes } in
     let same : w' ≡ w = λ j. record { place = (let q : n + 1 + i ≡ suc n + i = omega arith in q) j; bytes = bytes j } in
     subst (λ (p : Phase). Makes (g.D.Disk.rule disk) g.D.Disk.attempts (phase_call n (group_of group p) (phase_of p)) m c.write.result m') (sym c.in-Slot.is)
     (write_made (g.D.Disk.rule disk) g.D.Disk.attempts w w' m c.write.result m' same c.write.ensures.outcome)
@@ -38,9 +36,8 @@ returns-in-Home g c =
     let i = c.in-Home.i in
     let m = g.D.Disk.medium disk in
     let m' = g.D.Disk.medium c.write-in-Home.new.self in
-    let lt : i < b.count = ltb-true i b.count (subst (λ (p : Phase). in_turn p b.count ≡ true) c.in-Home.is c.requires.turn) in
-    let count : length (entries b) ≡ b.count = length-take-le b.count b.rows (omega (arith, b.few, b.full)) in
-    let w' : Write = write_in c.entry-entry.result in
-    let same : w' ≡ nth (write_list b) i = ap write_in c.entry-entry.ensures ∙ sym (nth_entry (entries b) i (omega (arith, count, lt))) in
+    let lt : i < length (entries b) = ltb-true i (length (entries b)) (subst (λ (p : Phase). in_turn p (length (entries b)) ≡ true) c.in-Home.is c.requires.turn) in
+    let w' : Write = write_in c.entry-entry.result.now in
+    let same : w' ≡ nth (write_list b) i = ap write_in c.entry-entry.ensures ∙ sym (nth_entry (entries b) i lt) in
     subst (λ (p : Phase). Makes (g.D.Disk.rule disk) g.D.Disk.attempts (phase_call n (group_of group p) (phase_of p)) m c.write-in-Home.result m') (sym c.in-Home.is)
     (write_made (g.D.Disk.rule disk) g.D.Disk.attempts (nth (write_list b) i) w' m c.write-in-Home.result m' same c.write-in-Home.ensures.outcome)

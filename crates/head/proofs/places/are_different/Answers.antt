@@ -1,20 +1,14 @@
-use Rattle.std.proofs.Common.{◌+◌, not, ◌&&◌, drop, sym, ap, ◌∙◌}
-use Rattle.std.proofs.lemmas.List.{at_drop_all}
+use Rattle.std.proofs.Common.{not, ◌&&◌, ◌-◌, length, take, drop, sym, ap, ◌∙◌}
 use Rattle.head.specs.Head.{none_twice}
-use Rattle.head.proofs.Bytes.{different_by}
+use Rattle.head.proofs.Among.{twice_first}
 use Rattle.head.proofs.places.are_different.Goals as goal
 
-pub returns-then-is_among : goal.returns-then-is_among
-returns-then-is_among c =
-    let ps = c.args.places.now in
-    let i = c.loop-i.i in
-    sym (sym c.loop-i.invariant ∙ different_by ps i c.is_among.result c.loop-i-test.true c.is_among.ensures ∙ ap (λ t. not t && none_twice (drop (i + 1) ps)) c.if-is_among.true)
+pub returns-then-contains : goal.returns-then-contains
+returns-then-contains c =
+    let xs = c.loop-rest.rest.now in
+    sym (sym c.loop-rest.invariant ∙ twice_first xs c.in-len1-up.len_at_least ∙ ap (λ t. not t && none_twice (take (length xs - 1) (drop 1 xs))) (sym c.contains.ensures.value ∙ c.if-contains.true))
 
-pub loop-i-preserved : goal.loop-i-preserved
-loop-i-preserved c =
-    let ps = c.args.places.now in
-    let i = c.loop-i.i in
-    sym (different_by ps i c.is_among.result c.loop-i-test.true c.is_among.ensures ∙ ap (λ t. not t && none_twice (drop (i + 1) ps)) c.if-is_among.false) ∙ c.loop-i.invariant
-
-pub returns : goal.returns
-returns c = sym (at_drop_all none_twice c.args.places.now c.loop-i.i c.loop-i-test.false) ∙ c.loop-i.invariant
+pub loop-rest-preserved : goal.loop-rest-preserved
+loop-rest-preserved c =
+    let xs = c.loop-rest.rest.now in
+    sym (twice_first xs c.in-len1-up.len_at_least ∙ ap (λ t. not t && none_twice (take (length xs - 1) (drop 1 xs))) (sym c.contains.ensures.value ∙ c.if-contains.false)) ∙ c.loop-rest.invariant

@@ -1,5 +1,4 @@
 use Rattle.std.proofs.Common.{◌≡◌, ◌+◌, ◌<◌, [], length, replicate, Ok, Err, refl, arith, rules}
-use Rattle.std.proofs.lemmas.List.{length-take-le}
 use Rattle.std.proofs.lemmas.Result.{err_from_is_err_and}
 use Rattle.disk.specs.Medium.{Write, Effect, size}
 use Rattle.head.specs.Codes.{head_of}
@@ -45,8 +44,7 @@ returns g c =
     let slot : n + 1 + i ≡ slot_place n i = omega arith in
     let first : Leads (OfRule rule) n (at (read_slot i h) m) (at (write_home i h block) mid)
     = read_slot_goes (OfRule rule) any tries n m (Ok tt) mid h i (n + 1 + i) (replicate 512 0) block slot refl (omega (arith, c.requires.sized, c.requires.in_turn, c.args.head.now.few)) c.in_ok-read.ensures in
-    let turns : i < length h.places = omega (arith, c.requires.in_turn, length-take-le c.args.head.now.count c.args.head.now.places (omega (arith, c.args.head.now.few, c.args.head.now.full))) in
-    let fits : c.place.result < size mid = omega (arith, c.place.ensures, place_below n h i c.requires.fit turns, leads_size (OfRule rule) n (at (read_slot i h) m) (at (write_home i h block) mid) first, c.requires.sized) in
+    let fits : c.place.result < size mid = omega (arith, c.place.ensures, place_below n h i c.requires.fit c.requires.in_turn, leads_size (OfRule rule) n (at (read_slot i h) m) (at (write_home i h block) mid) first, c.requires.sized) in
     let whole : length block ≡ 512 = search rules in
     goes_on (OfRule rule) n (at (read_slot i h) m) (at (write_home i h block) mid) first tries (turn (i + 1) h) c.write.result last
     (write_home_goes (OfRule rule) (rule mid-disk w) (mid-disk, w, refl) tries n mid c.write.result last h i c.place.result block c.place.ensures whole fits c.write.ensures.outcome)

@@ -20,7 +20,7 @@ copy_slot-requires g c =
       sized = leads_size (OfRule rule) n (at (turn 0 h) m) (at (turn c.loop-i.i h) mid) c.loop-i.invariant ∙ c.requires.sized;
       room = c.requires.room;
       fit = c.requires.fit;
-      in_turn = omega (arith, c.loop-i-test.true, c.len-i-end.ensures.count);
+      in_turn = omega (arith, c.loop-i-test.true, c.len-i-end.ensures);
     }
 
 pub loop-i-preserved : goal.loop-i-preserved
@@ -32,7 +32,7 @@ loop-i-preserved g c =
     let m = g.D.Disk.medium c.args.disk.now in
     let mid = g.D.Disk.medium c.loop-i.disk in
     let last = g.D.Disk.medium c.copy_slot.new.disk in
-    let more : i < length h.places = omega (arith, c.loop-i-test.true, c.len-i-end.ensures.length) in
+    let more : i < length h.places = omega (arith, c.loop-i-test.true, c.len-i-end.ensures) in
     leads_on (OfRule rule) n (at (turn 0 h) m) (at (turn i h) mid) c.loop-i.invariant (at (turn (i + 1) h) last)
     (subst (λ s. Leads (OfRule rule) n (at s mid) (at (turn (i + 1) h) last)) (sym (turn_on i h more)) c.in_ok-copy_slot.ensures)
 
@@ -47,7 +47,7 @@ returns-in_err-copy_slot g c =
     let mid = g.D.Disk.medium c.loop-i.disk in
     let last = g.D.Disk.medium c.copy_slot.new.disk in
     let e = c.in_err-copy_slot.field-0.0 in
-    let more : i < length h.places = omega (arith, c.loop-i-test.true, c.len-i-end.ensures.length) in
+    let more : i < length h.places = omega (arith, c.loop-i-test.true, c.len-i-end.ensures) in
     handed_up (OfRule rule) tries n (at (turn 0 h) m) (turn (i + 1) h) (home_flush h) e c.from_residual.result last
     (err_from_is_err_and c.from_residual.result c.from_residual.ensures.1)
     (goes_on (OfRule rule) n (at (turn 0 h) m) (at (turn i h) mid) c.loop-i.invariant tries (turn (i + 1) h) (Err e) last
@@ -61,5 +61,5 @@ returns g c =
     let h = head_of c.args.head.now in
     let m = g.D.Disk.medium c.args.disk.now in
     let mid = g.D.Disk.medium c.loop-i.disk in
-    let all : length h.places ≤ i = omega (arith, c.loop-i-test.false, c.len-i-end.ensures.length) in
+    let all : length h.places ≤ i = omega (arith, c.loop-i-test.false, c.len-i-end.ensures) in
     subst (λ s. Leads (OfRule rule) n (at (turn 0 h) m) (at s mid)) (turn_end i h all) c.loop-i.invariant

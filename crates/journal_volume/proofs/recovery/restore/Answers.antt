@@ -12,7 +12,7 @@ returns-then-len-eq0 g c =
     let n = c.args.home in
     let h = head_of c.args.head.now in
     let m = g.D.Disk.medium c.args.disk.now in
-    let empty : length h.places ≡ 0 = omega (arith, c.if-len-eq0.true, c.len.ensures.length) in
+    let empty : length h.places ≡ 0 = omega (arith, c.if-len-eq0.true, c.len.ensures) in
     subst (λ s. Leads (OfRule rule) n (at s m) (at (recovered h.number) m)) (sym (seen_none h empty)) (record { effects = []; by_rule = tt; run = refl })
 
 pub clear-requires : goal.clear-requires
@@ -33,7 +33,7 @@ returns-in_err-copy_slots g c =
     let m = g.D.Disk.medium c.args.disk.now in
     let last = g.D.Disk.medium c.copy_slots.new.disk in
     let e = c.in_err-copy_slots.field-0.0 in
-    let some : 0 < length h.places = omega (arith, c.if-len-eq0.false, c.len.ensures.length) in
+    let some : 0 < length h.places = omega (arith, c.if-len-eq0.false, c.len.ensures) in
     subst (λ s. Goes (OfRule rule) tries n (at s m) (recovered h.number) c.from_residual.result last) (sym (seen_some h some))
     (handed_up (OfRule rule) tries n (at (turn 0 h) m) (home_flush h) (recovered h.number) e c.from_residual.result last
     (err_from_is_err_and c.from_residual.result c.from_residual.ensures.1) c.in_err-copy_slots.ensures)
@@ -47,6 +47,6 @@ returns g c =
     let m = g.D.Disk.medium c.args.disk.now in
     let mid = g.D.Disk.medium c.copy_slots.new.disk in
     let last = g.D.Disk.medium c.clear.new.disk in
-    let some : 0 < length h.places = omega (arith, c.if-len-eq0.false, c.len.ensures.length) in
+    let some : 0 < length h.places = omega (arith, c.if-len-eq0.false, c.len.ensures) in
     subst (λ s. Goes (OfRule rule) tries n (at s m) (recovered h.number) c.clear.result last) (sym (seen_some h some))
     (goes_on (OfRule rule) n (at (turn 0 h) m) (at (home_flush h) mid) c.in_ok-copy_slots.ensures tries (recovered h.number) c.clear.result last c.clear.ensures)

@@ -1,6 +1,8 @@
-use Rattle.std.proofs.Common.{◌≡◌, ◌+◌, ◌≤◌, true, false, List, [], ◌∷◌, ◌++◌, map, length, sym, ap, ◌∙◌, subst, arith}
+use Rattle.std.proofs.Common.{◌≡◌, ◌+◌, ◌≤◌, true, false, List, [], ◌∷◌, ◌++◌, map, length, not, sym, ap, ◌∙◌, subst, arith, rules}
+use Rattle.std.proofs.lemmas.Bool.{ne_eqb}
 use Rattle.std.proofs.lemmas.Bool.Decides.{nat_tests}
-use Rattle.std.proofs.lemmas.List.{length-map, length-take-le, length_push, map_push}
+use Rattle.disk.specs.Medium.{Block}
+use Rattle.std.proofs.lemmas.List.{length-map, length_push, map_push}
 use Rattle.head.specs.Head.{holds, all_below, none_twice}
 use Rattle.journal_law.specs.Cache.{Begun, begin, place_of, begun_place, different}
 use Rattle.journal_law.proofs.Entries.{room_begin}
@@ -11,14 +13,15 @@ use Rattle.journal.proofs.Rooms.{begun_places, room_open, below_push, once_push}
 use Rattle.journal.proofs.Outcomes.{runs_by, Long, Far, Taken, Full, Late, begin_0, begin_1, begin_2, begin_3, begin_4, begin_5}
 use Rattle.journal.proofs.live.Live.begin.Goals as goal
 
-pub returns-then-bytes-ne-BLOCK : goal.returns-then-bytes-ne-BLOCK
-returns-then-bytes-ne-BLOCK g c =
+pub returns-in_default : goal.returns-in_default
+returns-in_default g c =
     let s = c.args.self.now in
     let device = met g.D.Disk.medium g.D.Disk.rule g.D.Disk.attempts s in
     let v = model g.D.Disk.medium s in
     let place = c.args.place in
     let bytes = c.args.bytes.now in
-    let long : Long device v place bytes ≡ true = grind (arith, nat_tests) in
+    let other : length bytes ≡ 512 → ⊥ = search rules in
+    let long : Long device v place bytes ≡ true = ap not (ne_eqb (length bytes) 512 other) in
     let e = begin_1 device v place bytes long in
     record { outcome = e; runs = runs_by device (begin place bytes) v _ e }
 
@@ -29,6 +32,7 @@ returns-then-place-self g c =
     let v = model g.D.Disk.medium s in
     let place = c.args.place in
     let bytes = c.args.bytes.now in
+    let whole : length bytes ≡ 512 = search rules in
     let long : Long device v place bytes ≡ false = grind (arith, nat_tests) in
     let far : Far device v place bytes ≡ true = grind (arith, nat_tests) in
     let e = begin_2 device v place bytes long far in
@@ -41,6 +45,7 @@ returns-then-holds g c =
     let v = model g.D.Disk.medium s in
     let place = c.args.place in
     let bytes = c.args.bytes.now in
+    let whole : length bytes ≡ 512 = search rules in
     let long : Long device v place bytes ≡ false = grind (arith, nat_tests) in
     let far : Far device v place bytes ≡ false = grind (arith, nat_tests) in
     let taken : Taken device v place bytes ≡ true = ap (holds place) (begun_places (entries s.opens)) ∙ sym c.if-holds.ensures in
@@ -62,6 +67,7 @@ returns-then-places_with-gt-MOST_PLACES g c =
     let v = model g.D.Disk.medium s in
     let place = c.args.place in
     let bytes = c.args.bytes.now in
+    let whole : length bytes ≡ 512 = search rules in
     let long : Long device v place bytes ≡ false = grind (arith, nat_tests) in
     let far : Far device v place bytes ≡ false = grind (arith, nat_tests) in
     let taken : Taken device v place bytes ≡ false = ap (holds place) (begun_places (entries s.opens)) ∙ sym c.if-holds.ensures in
@@ -76,6 +82,7 @@ returns-then-self-len-gt-LAST_MARK g c =
     let v = model g.D.Disk.medium s in
     let place = c.args.place in
     let bytes = c.args.bytes.now in
+    let whole : length bytes ≡ 512 = search rules in
     let long : Long device v place bytes ≡ false = grind (arith, nat_tests) in
     let far : Far device v place bytes ≡ false = grind (arith, nat_tests) in
     let taken : Taken device v place bytes ≡ false = ap (holds place) (begun_places (entries s.opens)) ∙ sym c.if-holds.ensures in
@@ -110,11 +117,9 @@ invariant_of-self g c =
     let places : map begun_place (begun_list b) ≡ ps ++ place ∷ [] = ap (map begun_place) list ∙ map_push begun_place (begun_list s.opens) new ∙ ap (λ p. ps ++ p ∷ []) at in
     let fresh : holds place ps ≡ false = ap (holds place) (begun_places (entries s.opens)) ∙ sym c.if-holds.ensures in
     let few : different s.home (place ∷ (map place_of (write_list s.collected) ++ ps)) ≤ 8 = omega (arith, c.places_with.ensures, c.if-places_with-gt-MOST_PLACES.false) in
-    let old : length (entries s.opens) ≡ s.opens.count = length-take-le s.opens.count s.opens.rows (omega (arith, s.opens.few, s.opens.full)) in
-    let now-count : length (entries b) ≡ b.count = length-take-le b.count b.rows (omega (arith, b.few, b.full)) in
     let longer : length (entries b) ≡ length (entries s.opens) + 1 = ap length c.push.ensures ∙ length_push (entries s.opens) c.new.result in record {
       room = s.room;
-      marks = omega (arith, old, now-count, longer, c.len.ensures, c.if-self-len-gt-LAST_MARK.false);
+      marks = omega (arith, longer, c.len.ensures, c.if-self-len-gt-LAST_MARK.false);
       inside = ap (all_below s.home) places ∙ below_push s.home ps place s.inside c.if-place-self.false;
       apart = ap none_twice places ∙ once_push s.home ps place s.apart fresh;
       below = s.below;
@@ -131,11 +136,14 @@ returns g c =
     let v = model g.D.Disk.medium s in
     let place = c.args.place in
     let bytes = c.args.bytes.now in
+    let whole : length bytes ≡ 512 = search rules in
     let long : Long device v place bytes ≡ false = grind (arith, nat_tests) in
     let far : Far device v place bytes ≡ false = grind (arith, nat_tests) in
     let taken : Taken device v place bytes ≡ false = ap (holds place) (begun_places (entries s.opens)) ∙ sym c.if-holds.ensures in
     let full : Full device v place bytes ≡ false = grind (arith, nat_tests, c.places_with.ensures) in
     let late : Late device v place bytes ≡ false = grind (arith, nat_tests, c.len.ensures, length-map (entries s.opens) begun_in) in
-    let list = ap (map begun_in) c.push.ensures ∙ map_push begun_in (entries s.opens) c.new.result ∙ ap (λ (e : Entry). begun_list s.opens ++ begun_in e ∷ []) c.new.ensures in
+    let same : c.in-Ok.block.now ≡ bytes = search rules in
+    let list = ap (map begun_in) c.push.ensures ∙ map_push begun_in (entries s.opens) c.new.result ∙ ap (λ (e : Entry). begun_list s.opens ++ begun_in e ∷ []) c.new.ensures
+    ∙ ap (λ (x : Block). begun_list s.opens ++ record { mark = s.counter + 1; write = record { place = place; bytes = x } } ∷ []) same in
     let e = begin_0 device v place bytes long far taken full late (begun_list c.push.new.self) list in
     record { outcome = e; runs = runs_by device (begin place bytes) v _ e }

@@ -1,6 +1,6 @@
 use Rattle.std.proofs.Common.{◌≡◌, ◌<◌, ◌≤◌, true, List, ◌++◌, map, length, sym, ap, ◌∙◌, subst, subst₂, arith}
 use mathlib.Core.Option.{some}
-use Rattle.std.proofs.lemmas.List.{length-map, length-take-le}
+use Rattle.std.proofs.lemmas.List.{length-map}
 use Rattle.disk.specs.Medium.{Write}
 use Rattle.head.specs.Head.{holds, all_below, none_twice}
 use Rattle.journal_law.specs.Cache.{Begun, finish, place_of, begun_place, different, find, without, collect}
@@ -20,11 +20,9 @@ invariant_of-self g c =
     let b = c.take.new.self in
     let device = met g.D.Disk.medium g.D.Disk.rule g.D.Disk.attempts s in
     let v = model g.D.Disk.medium s in
-    let same : begun_list b ≡ begun_list s.opens = kept_opens device v c.args.ticket (begun_list b) c.take.ensures.rest (sym c.in_default.ensures.taken) in
-    let count : length (entries b) ≡ b.count = length-take-le b.count b.rows (omega (arith, b.few, b.full)) in
-    let old : length (entries s.opens) ≡ s.opens.count = length-take-le s.opens.count s.opens.rows (omega (arith, s.opens.few, s.opens.full)) in record {
+    let same : begun_list b ≡ begun_list s.opens = kept_opens device v c.args.ticket (begun_list b) c.take.ensures.rest (sym c.in_default.ensures.taken) in record {
       room = s.room;
-      marks = omega (arith, s.marks, count, old, ap length same, length-map (entries b) begun_in, length-map (entries s.opens) begun_in);
+      marks = omega (arith, s.marks, ap length same, length-map (entries b) begun_in, length-map (entries s.opens) begun_in);
       inside = ap (λ (l : List Begun). all_below s.home (map begun_place l)) same ∙ s.inside;
       apart = ap (λ (l : List Begun). none_twice (map begun_place l)) same ∙ s.apart;
       below = s.below;
@@ -65,11 +63,9 @@ invariant_of-self-2 g c =
     let found : find ticket (begun_list s.opens) ≡ some o = sym c.in-Some.ensures.taken in
     let rest : begun_list b ≡ without ticket (begun_list s.opens) = c.take.ensures.rest in
     let batch : write_list k ≡ collect o.write (write_list s.collected) = c.collect.ensures in
-    let count : length (entries b) ≡ b.count = length-take-le b.count b.rows (omega (arith, b.few, b.full)) in
-    let old : length (entries s.opens) ≡ s.opens.count = length-take-le s.opens.count s.opens.rows (omega (arith, s.opens.few, s.opens.full)) in
     let inside : o.write.place < s.home = below_held s.home o.write.place (map begun_place (begun_list s.opens)) (holds_found ticket (begun_list s.opens) o found) s.inside in record {
       room = s.room;
-      marks = omega (arith, s.marks, count, old, ap length rest, length-map (entries b) begun_in, length-map (entries s.opens) begun_in, length_without ticket (begun_list s.opens) o found);
+      marks = omega (arith, s.marks, ap length rest, length-map (entries b) begun_in, length-map (entries s.opens) begun_in, length_without ticket (begun_list s.opens) o found);
       inside = ap (λ (l : List Begun). all_below s.home (map begun_place l)) rest ∙ below_without s.home ticket (begun_list s.opens) s.inside;
       apart = ap (λ (l : List Begun). none_twice (map begun_place l)) rest ∙ once_without s.home ticket (begun_list s.opens) s.apart;
       below = ap (λ (l : List Write). all_below s.home (map place_of l)) batch ∙ below_collect s.home o.write (write_list s.collected) inside s.below;

@@ -1,9 +1,8 @@
 use Rattle.std.proofs.Common.{◌≡◌, ◌-◌, ◌≤◌, List, [], ◌++◌, map, length, refl, ap, ◌∙◌, arith}
-use Rattle.std.proofs.lemmas.List.{length-take-le}
 use Rattle.disk.specs.Medium.{Write}
 use Rattle.head.specs.Head.{all_below, none_twice}
 use Rattle.journal_law.specs.Cache.{Begun, place_of, begun_place, different}
-use Rattle.batch.specs.Rows.{entries, begun_in, write_in, begun_list, write_list}
+use Rattle.batch.specs.Rows.{begun_in, write_in, begun_list, write_list}
 use Rattle.journal.proofs.Rooms.{different_none}
 use Rattle.journal.proofs.Outcomes.{just_made}
 use Rattle.journal.proofs.live.Live.new.Goals as goal
@@ -13,11 +12,10 @@ invariant_of-result g c =
     let n = c.saturating_sub-home.result in
     let few : c.size.result ≤ 4096 = omega (arith, c.size.ensures, (g.met.D.Disk.sound c.into_recovered-disk.result.disk).few) in
     let b = c.new.result in
-    let count : length (entries b) ≡ b.count = length-take-le b.count b.rows (omega (arith, b.few, b.full)) in
     let opens : begun_list c.new.result ≡ [] = ap (map begun_in) c.new.ensures in
     let batch : write_list c.new-2.result ≡ [] = ap (map write_in) c.new-2.ensures in record {
       room = omega (arith, few, c.saturating_sub-home.ensures);
-      marks = omega (arith, count, ap length c.new.ensures);
+      marks = omega (arith, ap length c.new.ensures);
       inside = ap (λ (l : List Begun). all_below n (map begun_place l)) opens;
       apart = ap (λ (l : List Begun). none_twice (map begun_place l)) opens;
       below = ap (λ (l : List Write). all_below n (map place_of l)) batch;

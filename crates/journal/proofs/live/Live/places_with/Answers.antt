@@ -1,5 +1,5 @@
 use Rattle.std.proofs.Common.{◌≡◌, ◌≤◌, true, false, map, length, sym, ap, ◌∙◌, arith}
-use Rattle.std.proofs.lemmas.List.{length-map, length-take-le}
+use Rattle.std.proofs.lemmas.List.{length-map}
 use Rattle.head.specs.Head.{holds}
 use Rattle.journal_law.specs.Cache.{place_of, begun_place}
 use Rattle.batch.specs.Rows.{entries, place_in, write_in, place_list, write_list, begun_list, outside}
@@ -10,15 +10,15 @@ use Rattle.journal.proofs.live.Live.places_with.Goals as goal
 pub overflow_add-taken : goal.overflow_add-taken
 overflow_add-taken g c =
     let v = c.args.self.now in
-    let a : length (entries v.collected) ≤ 8 = omega (arith, length-take-le v.collected.count v.collected.rows (omega (arith, v.collected.few, v.collected.full)), v.collected.few) in
-    let b : length (place_list v.opens) ≤ 8 = omega (arith, length-map (entries v.opens) place_in, length-take-le v.opens.count v.opens.rows (omega (arith, v.opens.few, v.opens.full)), v.opens.few) in
+    let a : length (entries v.collected) ≤ 8 = omega (arith, v.collected.few) in
+    let b : length (place_list v.opens) ≤ 8 = omega (arith, length-map (entries v.opens) place_in, v.opens.few) in
     omega (arith, a, b, c.len.ensures, c.outside.ensures, outside_le (place_list v.opens) (place_list v.collected))
 
 pub overflow_add-result : goal.overflow_add-result
 overflow_add-result g c =
     let v = c.args.self.now in
-    let a : length (entries v.collected) ≤ 8 = omega (arith, length-take-le v.collected.count v.collected.rows (omega (arith, v.collected.few, v.collected.full)), v.collected.few) in
-    let b : length (place_list v.opens) ≤ 8 = omega (arith, length-map (entries v.opens) place_in, length-take-le v.opens.count v.opens.rows (omega (arith, v.opens.few, v.opens.full)), v.opens.few) in
+    let a : length (entries v.collected) ≤ 8 = omega (arith, v.collected.few) in
+    let b : length (place_list v.opens) ≤ 8 = omega (arith, length-map (entries v.opens) place_in, v.opens.few) in
     omega (arith, a, b, c.len.ensures, c.outside.ensures, outside_le (place_list v.opens) (place_list v.collected))
 
 pub returns-then-holds : goal.returns-then-holds

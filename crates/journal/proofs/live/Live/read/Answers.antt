@@ -37,7 +37,7 @@ returns-in-Some g c =
     let b = c.args.buffer.now in
     let long : not (eqb (length b) 512) ≡ false = grind (arith, nat_tests) in
     let far : leb s.home place ≡ false = grind (arith, nat_tests) in
-    let o = read_held device v place (length b) b c.in-Some.bytes _ long far c.in-Some.ensures c.copy_from_slice.ensures.after in
+    let o = read_held device v place (length b) b c.in-Some.bytes.now _ long far c.in-Some.ensures c.copy_from_slice.ensures.after in
     record { outcome = o.outcome_is; buffer = o.buffer_is; runs = runs_by device (read place (length b)) v _ o.outcome_is }
 
 pub returns : goal.returns

@@ -1,5 +1,5 @@
 use Rattle.std.proofs.Common.{◌≡◌, ◌≤◌, List, ◌++◌, map, length, sym, ap, ◌∙◌, subst, arith}
-use Rattle.std.proofs.lemmas.List.{length-map, length-take-le}
+use Rattle.std.proofs.lemmas.List.{length-map}
 use Rattle.head.specs.Head.{all_below, none_twice}
 use Rattle.journal_law.specs.Cache.{Begun, withdraw, place_of, begun_place, different, without}
 use Rattle.journal_law.proofs.Entries.{room_without}
@@ -14,11 +14,9 @@ invariant_of-self g c =
     let s = c.args.self.now in
     let b = c.take.new.self in
     let ticket = c.args.ticket in
-    let rest : begun_list b ≡ without ticket (begun_list s.opens) = c.take.ensures.rest in
-    let count : length (entries b) ≡ b.count = length-take-le b.count b.rows (omega (arith, b.few, b.full)) in
-    let old : length (entries s.opens) ≡ s.opens.count = length-take-le s.opens.count s.opens.rows (omega (arith, s.opens.few, s.opens.full)) in record {
+    let rest : begun_list b ≡ without ticket (begun_list s.opens) = c.take.ensures.rest in record {
       room = s.room;
-      marks = omega (arith, s.marks, count, old, ap length rest, length-map (entries b) begun_in, length-map (entries s.opens) begun_in, shorter_without ticket (begun_list s.opens));
+      marks = omega (arith, s.marks, ap length rest, length-map (entries b) begun_in, length-map (entries s.opens) begun_in, shorter_without ticket (begun_list s.opens));
       inside = ap (λ (l : List Begun). all_below s.home (map begun_place l)) rest ∙ below_without s.home ticket (begun_list s.opens) s.inside;
       apart = ap (λ (l : List Begun). none_twice (map begun_place l)) rest ∙ once_without s.home ticket (begun_list s.opens) s.apart;
       below = s.below;

@@ -1,5 +1,4 @@
-use Rattle.std.proofs.Common.{◌≡◌, ◌<◌, true, length, sym, ap, ◌∙◌, subst, arith}
-use Rattle.std.proofs.lemmas.List.{length-take-le}
+use Rattle.std.proofs.Common.{◌≡◌, ◌<◌, true, length, sym, ap, ◌∙◌, subst}
 use Rattle.std.proofs.lemmas.Bool.{ltb-true}
 use Rattle.disk.specs.Medium.{Write}
 use Rattle.batch.specs.declared.entry.Entry.{Entry}
@@ -15,7 +14,6 @@ pub returns-in-Home : goal.returns-in-Home
 returns-in-Home c =
     let b = c.args.self.now.group in
     let i = c.in-Home.i in
-    let lt : i < b.count = ltb-true i b.count (subst (λ (p : Phase). in_turn p b.count ≡ true) c.in-Home.is c.requires) in
-    let count : length (entries b) ≡ b.count = length-take-le b.count b.rows (omega (arith, b.few, b.full)) in
-    ap (λ n. Place n) (ap (λ (e : Entry). e.place) c.entry.ensures ∙ sym (ap (λ (w : Write). w.place) (nth_entry (entries b) i (omega (arith, count, lt)))))
+    let lt : i < length (entries b) = ltb-true i (length (entries b)) (subst (λ (p : Phase). in_turn p (length (entries b)) ≡ true) c.in-Home.is c.requires) in
+    ap (λ n. Place n) (ap (λ (e : Entry). e.place) c.entry.ensures ∙ sym (ap (λ (w : Write). w.place) (nth_entry (entries b) i lt)))
     ∙ sym (ap (phase_deed (write_list b)) c.in-Home.is)
