@@ -12,13 +12,11 @@ use Rattle.errors.specs.Errors.{raised}
 use Rattle.precedence.specs.Stamps.{Precedence, Lawful}
 use Rattle.table.specs.declared.held.Change.TheVariants as change_of
 use Rattle.table.specs.declared.held.Query.TheVariants as query
-use Rattle.table.specs.declared.held.Row.{Row}
-use Rattle.table.specs.declared.held.Row.TheVariants.{Vacant}
 use Rattle.table.specs.declared.scan.Candidate.{Candidate}
 use Rattle.table.specs.declared.tally.Counts.{Counts}
 use Rattle.table.specs.declared.tally.Tally.{Tally}
 use Rattle.table.specs.Versions.{is_open, is_waiting, is_sent, some_pass, count, begun, reserved, room}
-use Rattle.table.specs.Rows.{in_rows, no_rows, bytes_of, test, changed, put}
+use Rattle.table.specs.Rows.{Row, in_rows, no_rows, bytes_of, test, changed, put}
 use Rattle.table.specs.Scans.{lowest_ready, newest_at}
 use Rattle.ordered_law.specs.Device.{Device}
 use Rattle.ordered_law.specs.Events.{Answer, Call, took, shown, refused}
@@ -154,7 +152,7 @@ module _ (precedes : Precedence) (rule : Write → Effect) (tries : ℕ) (c : Ca
 
   -- ---- a grant was issued
 
-  a_job : (o : Option Candidate) (j : Job) → Some j ≡ jobs c.rows o → (n : Candidate) × (o ≡ Some n) × (j ≡ record { row = n.row; write = write_in (get_or c.rows n.row Vacant) })
+  a_job : (o : Option Candidate) (j : Job) → Some j ≡ jobs c.rows o → (n : Candidate) × (o ≡ Some n) × (j ≡ record { row = n.row; write = write_in (get_or c.rows n.row None) })
   a_job None j e = let z : ◌≡◌ {A = ℕ} 0 1 = cc in absurd (omega arith)
   a_job (Some n) j e = (n, refl, cc)
 
@@ -237,7 +235,7 @@ module _ (device : Device) (place : ℕ) (b : List ℕ) (c : Cache) where
       ∙ ap (λ k. cond k (refuse Place c) (read_through device place (length b) c (newest_at place c.rows))) (sym f)
       ∙ ap (λ k. cond k (refuse Length c) (cond beyond (refuse Place c) (read_through device place (length b) c (newest_at place c.rows)))) (sym e)
 
-  pub read_table : short ≡ false → beyond ≡ false → (n : Candidate) → newest_at place c.rows ≡ Some n → {b' : List ℕ} → b' ≡ bytes_of (get_or c.rows n.row Vacant) → ReadAs (gives (shown b') c) b'
+  pub read_table : short ≡ false → beyond ≡ false → (n : Candidate) → newest_at place c.rows ≡ Some n → {b' : List ℕ} → b' ≡ bytes_of (get_or c.rows n.row None) → ReadAs (gives (shown b') c) b'
   read_table e f n g {b'} h = so (gives (shown b') c) b' (ap (λ (x : List ℕ). gives (shown x) c) h ∙ inside (Some n) e f g) refl
 
   pub read_below : short ≡ false → beyond ≡ false → newest_at place c.rows ≡ None → {r : Result (Unit {0}) CacheError} {m : Medium} {b' : List ℕ} {l : List Row} {n : ℕ} {k : Counts} →

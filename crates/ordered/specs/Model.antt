@@ -5,10 +5,8 @@ use Rattle.errors.specs.declared.CacheError.{CacheError}
 use Rattle.errors.specs.declared.Progress.{Progress}
 use Rattle.errors.specs.Errors.{progress_number}
 use Rattle.precedence.specs.Stamps.{Precedence}
-use Rattle.table.specs.declared.held.Row.{Row}
-use Rattle.table.specs.declared.held.Row.TheVariants.{Vacant}
 use Rattle.table.specs.declared.scan.Candidate.{Candidate}
-use Rattle.table.specs.Rows.{stamp_of, bytes_of}
+use Rattle.table.specs.Rows.{Row, stamp_of, bytes_of}
 use Rattle.table.specs.Scans.{lowest_ready}
 use Rattle.ordered_law.specs.Device.{Device}
 use Rattle.ordered_law.specs.Events.{Answer, took, refused}
@@ -45,8 +43,8 @@ abbrev pub write_in : Row → Write
 write_in row = record { place = (stamp_of row).place; bytes = bytes_of row }
 
 abbrev pub asked_write : List Row → Option Candidate → Write
-asked_write rows None = write_in Vacant
-asked_write rows (Some n) = write_in (slice_index_or rows n.row Vacant)
+asked_write rows None = write_in None
+asked_write rows (Some n) = write_in (slice_index_or rows n.row None)
 
 -- the disk's rule at the write that the next step asks for
 abbrev pub device : {D P : Type 0} → (D → Write → Effect) → ℕ → (P → Precedence) → Live D P → Device

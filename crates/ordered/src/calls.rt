@@ -22,9 +22,9 @@ impl<D: BenchDisk, P: Precedence> Live<D, P> {
         ensures order { self.new.order ≡ self.old.order }
         ensures runs { RunsOn (P.before self.old.order) (Begin place bytes.now) (model D.Disk.medium self.old) (marked result) (model D.Disk.medium self.new) }
     {
-        if bytes.len() != BLOCK {
+        let Ok(block) = <&[u8; BLOCK]>::try_from(bytes) else {
             return Err(CacheError::Length);
-        }
+        };
         if place >= self.disk.size() {
             return Err(CacheError::Place);
         }
@@ -38,7 +38,7 @@ impl<D: BenchDisk, P: Precedence> Live<D, P> {
             return Err(CacheError::NoMarks);
         }
         let mark = self.counter + 1;
-        self.table.hold(row, Version::begin(place, bytes, mark));
+        self.table.hold(row, Version::begin(place, block, mark));
         self.counter = mark;
         self.counts.begun += 1;
         Ok(mark)

@@ -43,8 +43,7 @@ impl<D: BenchDisk, P: Precedence> Live<D, P> {
             return Err(CacheError::Place);
         }
         if let Some(newest) = newest_at(&self.table, place) {
-            let row = self.table.rows[newest.row];
-            buffer.copy_from_slice(&row.bytes());
+            buffer.copy_from_slice(self.table.bytes(newest.row));
             return Ok(());
         }
         self.read_disk(place, buffer)

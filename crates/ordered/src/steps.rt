@@ -24,11 +24,10 @@ impl<D: BenchDisk, P: Precedence> Live<D, P> {
         ensures { option_map job result ≡ jobs self.now.table.rows (lowest_ready (P.before self.now.order) self.now.table.rows) }
     {
         let candidate = lowest_ready(&self.table, &self.order)?;
-        let row = &self.table.rows[candidate.row];
         Some(Grant {
             row: candidate.row,
-            place: row.stamp().place,
-            bytes: row.bytes(),
+            place: self.table.stamp(candidate.row).place,
+            bytes: *self.table.bytes(candidate.row),
         })
     }
 

@@ -14,8 +14,6 @@ use Rattle.table.specs.declared.held.State.{State}
 use Rattle.table.specs.declared.held.Version.{Version}
 use Rattle.table.specs.declared.tally.Counts.{Counts}
 use Rattle.errors.specs.declared.CacheError.{CacheError}
-use Rattle.table.specs.declared.held.Row.{Row}
-use Rattle.table.specs.declared.held.Row.TheVariants.{Vacant, Held}
 use Rattle.table.specs.declared.scan.Candidate.{Candidate}
 use Rattle.errors.specs.declared.CacheCall.TheVariants as during
 use Rattle.errors.specs.declared.CacheError.TheVariants as error
@@ -27,7 +25,8 @@ use Rattle.ordered_law.proofs.Sorted.{is_bad, failed_call, written, Sorted, Sort
 use Rattle.precedence.specs.Stamps.{Precedence}
 use Rattle.table.specs.Versions.{live, reserves, is_open, is_waiting, is_sent, some_pass, count, held, has_ticket, begun, finish_one, withdraw_one, send_one, bring_home, wait_again, ready, finished_in}
 use Rattle.ordered_law.specs.Ledger.{first, chosen}
-use Rattle.table.specs.Rows.{in_rows, bytes_of, put, on_held, keeping, change, leave}
+use Rattle.std.specs.Option.{option_map}
+use Rattle.table.specs.Rows.{Row, in_rows, bytes_of, put, keeping, change, leave}
 use Rattle.table.proofs.Rowing.{some_vacant, room_is}
 use Rattle.ordered_law.proofs.Picking.{lowest, highest, Distinct, Finds, finds_lowest, finds_highest, all_at, marks_one}
 use Rattle.table.specs.Scans.{lowest_ready, newest_at}
@@ -49,34 +48,34 @@ pub record Fit (c : Cache) : Type 0 where
 
 length_put : (v : Version) (rows : List Row) → length (put v rows) ≡ length rows
 length_put v [] = refl
-length_put v (Vacant ∷ rows) = refl
-length_put v (Held u ∷ rows) = omega (arith, length_put v rows)
+length_put v (None ∷ rows) = refl
+length_put v (Some u ∷ rows) = omega (arith, length_put v rows)
 
 in_change : (g : Version → Version) (rows : List Row) → in_rows (change g rows) ≡ map g (in_rows rows)
 in_change g [] = refl
-in_change g (Vacant ∷ rows) = in_change g rows
-in_change g (Held v ∷ rows) = ap (λ x. g v ∷ x) (in_change g rows)
+in_change g (None ∷ rows) = in_change g rows
+in_change g (Some v ∷ rows) = ap (λ x. g v ∷ x) (in_change g rows)
 
 in_leave : (rows : List Row) → in_rows (leave rows) ≡ held (in_rows rows)
 in_leave [] = refl
-in_leave (Vacant ∷ rows) = in_leave rows
-in_leave (Held v ∷ rows) = go (live v.state) (in_leave rows)
+in_leave (None ∷ rows) = in_leave rows
+in_leave (Some v ∷ rows) = go (live v.state) (in_leave rows)
   where
-    go : (k : Bool) → in_rows (leave rows) ≡ held (in_rows rows) → in_rows (cond k (Held v) Vacant ∷ leave rows) ≡ cond k (v ∷ held (in_rows rows)) (held (in_rows rows))
+    go : (k : Bool) → in_rows (leave rows) ≡ held (in_rows rows) → in_rows (cond k (Some v) None ∷ leave rows) ≡ cond k (v ∷ held (in_rows rows)) (held (in_rows rows))
     go true ih = ap (λ x. v ∷ x) ih
     go false ih = ih
 
 all_put : (P : Version → Type 0) (v : Version) (rows : List Row) → P v → AllByRecursion P (in_rows rows) → AllByRecursion P (in_rows (put v rows))
 all_put P v [] h a = tt
-all_put P v (Vacant ∷ rows) h a = (h, a)
-all_put P v (Held u ∷ rows) h a = (a.0, all_put P v rows h a.1)
+all_put P v (None ∷ rows) h a = (h, a)
+all_put P v (Some u ∷ rows) h a = (a.0, all_put P v rows h a.1)
 
 -- ---- pairs
 
 pairs_put : (R : Version → Version → Type 0) (x : Version) (rows : List Row) → AllByRecursion (R x) (in_rows rows) → ((u v : Version) → R u v → R v u) → Pairs R (in_rows rows) → Pairs R (in_rows (put x rows))
 pairs_put R x [] a flip r = tt
-pairs_put R x (Vacant ∷ rows) a flip r = (a, r)
-pairs_put R x (Held u ∷ rows) a flip r = (all_put (R u) x rows (flip x u a.0) r.0, pairs_put R x rows a.1 flip r.1)
+pairs_put R x (None ∷ rows) a flip r = (a, r)
+pairs_put R x (Some u ∷ rows) a flip r = (all_put (R u) x rows (flip x u a.0) r.0, pairs_put R x rows a.1 flip r.1)
 
 and_first : (a b : Bool) → (a && b) ≡ true → a ≡ true
 and_first true b e = refl
@@ -132,7 +131,7 @@ module _ (c : Cache) (fit : Fit c) (bounded : Within (model_of c)) where
   changed a m n g b le = record {
     answers = refl;
     caches = ap (λ (t : List Version). record { medium = m; table = t; counter = n; counts = c.counts }) (changed_to g b);
-    fits = record { full = length-map c.rows (on_held g) ∙ fit.full; marks = marks_changed g b n le; distinct = distinct_changed g b };
+    fits = record { full = length-map c.rows (option_map g) ∙ fit.full; marks = marks_changed g b n le; distinct = distinct_changed g b };
   }
 
   -- after a change, some leave the table
@@ -144,7 +143,7 @@ module _ (c : Cache) (fit : Fit c) (bounded : Within (model_of c)) where
     caches = ap₂ (λ (t : List Version) (n : Counts). record { medium = m; table = t; counter = c.counter; counts = n })
         (ap in_order (in_leave (change g c.rows)) ∙ in_order_kept (λ v. live v.state) (in_rows (change g c.rows)) ∙ ap held (changed_to g b)) same;
     fits = record {
-      full = length-map (change g c.rows) (keeping (λ v. live v.state)) ∙ length-map c.rows (on_held g) ∙ fit.full;
+      full = length-map (change g c.rows) (keeping (λ v. live v.state)) ∙ length-map c.rows (option_map g) ∙ fit.full;
       marks = rw (in_leave (change g c.rows)) (all_kept_by (λ v. live v.state) (λ v. v.stamp.begin ≤ c.counter) (in_rows (change g c.rows)) (marks_changed g b c.counter (omega arith)));
       distinct = rw (in_leave (change g c.rows)) (pairs_kept (λ u v. u.stamp.begin ≢ v.stamp.begin) (λ v. live v.state) (in_rows (change g c.rows)) (distinct_changed g b));
     };
@@ -237,7 +236,7 @@ module _ (c : Cache) (fit : Fit c) (bounded : Within (model_of c)) where
       flush_by good = left _ _ _ _ bring_home (λ v. refl) (ap (λ k. more_home k c.counts) (count_same c is_sent))
       flush_by bad = passed_by _ _
 
-      send_by : (i : ℕ) (v : Version) → get_or c.rows i Vacant ≡ Held v → is_waiting v.state ≡ true → (e : Entry) → Follows (send_meeting device i (Held v) c (by_entry e)) (cond (is_bad e) (fault (failed_call during.Step kind.Write v.stamp.place device.tries) (model_of c)) (record { answer = took 1; cache = record { medium = written device c.medium (write_of v); table = map (send_one v.stamp.begin) T; counter = c.counter; counts = c.counts } }))
+      send_by : (i : ℕ) (v : Version) → get_or c.rows i None ≡ Some v → is_waiting v.state ≡ true → (e : Entry) → Follows (send_meeting device i (Some v) c (by_entry e)) (cond (is_bad e) (fault (failed_call during.Step kind.Write v.stamp.place device.tries) (model_of c)) (record { answer = took 1; cache = record { medium = written device c.medium (write_of v); table = map (send_one v.stamp.begin) T; counter = c.counter; counts = c.counts } }))
       send_by i v at w good = rw (marks_one c.rows i v at w fit.distinct) (changed _ _ c.counter (send_one v.stamp.begin) (λ u. refl) (omega arith))
       send_by i v at w bad = passed_by _ _
 
@@ -248,7 +247,7 @@ module _ (c : Cache) (fit : Fit c) (bounded : Within (model_of c)) where
       go (Some n) (option.some v) (within, at, begins, is_ready) =
           let fits = all_at (Fitting (length c.medium.firm)) c.rows n.row v at (all_from_order (Fitting (length c.medium.firm)) H bounded.fitting) in
           subst (λ (r : Row). Follows (send_call device n.row r c) (sorted_send device v (model_of c))) (sym at)
-          (subst (λ (met : Fate). Follows (send_meeting device n.row (Held v) c met) (sorted_send device v (model_of c))) (sym (passes v.stamp.place (length v.bytes) fits.1 fits.0))
+          (subst (λ (met : Fate). Follows (send_meeting device n.row (Some v) c met) (sorted_send device v (model_of c))) (sym (passes v.stamp.place (length v.bytes) fits.1 fits.0))
           (send_by n.row v at (and_first (is_waiting v.state) _ is_ready) (due c.medium.plan)))
 
   pub call_follows : (precedes : Precedence) (device : Device) (call : Call) → Follows (outcome precedes device call c) (sorted_outcome precedes device call (model_of c))

@@ -6,11 +6,10 @@ use Rattle.std.proofs.lemmas.Bool.{ltb-true, ltb-false, lt-ltb, le-ltb}
 use Rattle.std.proofs.lemmas.Bool.Decides.{nat_tests}
 use Rattle.table.specs.declared.held.State.TheVariants.{Sent}
 use Rattle.table.specs.declared.held.Version.{Version}
-use Rattle.table.specs.declared.held.Row.{Row}
-use Rattle.table.specs.declared.held.Row.TheVariants.{Vacant, Held}
 use Rattle.table.specs.declared.scan.Candidate.{Candidate}
 use Rattle.table.specs.Versions.{is_waiting, in_state, send_one}
-use Rattle.table.specs.Rows.{in_rows, change, on_held, mark_sent}
+use Rattle.std.specs.Option.{option_map}
+use Rattle.table.specs.Rows.{Row, in_rows, change, mark_sent}
 use Rattle.table.specs.Scans.{candidate, lower_of, higher_of, best_from}
 use Rattle.ordered_law.specs.Promise.{Pairs}
 
@@ -35,14 +34,14 @@ lowest p vs = best_of lower p vs
 abbrev pub highest : (Version → Bool) → List Version → option.Option Version
 highest p vs = best_of higher p vs
 
-differ : {A : Type 0} {v : Version} → Vacant ≡ Held v → A
+differ : {A : Type 0} {v : Version} → None ≡ Some v → A
 differ e = let z : ◌≡◌ {A = ℕ} 0 1 = cc in absurd (omega arith)
 
-same_version : {u v : Version} → Held u ≡ Held v → u ≡ v
+same_version : {u v : Version} → Some u ≡ Some v → u ≡ v
 same_version e = cc
 
 -- the row at the front of what is left
-at_drop : (table : List Row) (i : ℕ) (r : Row) (rest : List Row) → drop i table ≡ r ∷ rest → (i < length table) × (get_or table i Vacant ≡ r) × (drop (suc i) table ≡ rest)
+at_drop : (table : List Row) (i : ℕ) (r : Row) (rest : List Row) → drop i table ≡ r ∷ rest → (i < length table) × (get_or table i None ≡ r) × (drop (suc i) table ≡ rest)
 at_drop [] zero r rest e = let z : ◌≡◌ {A = ℕ} 0 1 = cc in absurd (omega arith)
 at_drop [] (suc i) r rest e = let z : ◌≡◌ {A = ℕ} 0 1 = cc in absurd (omega arith)
 at_drop (x ∷ table) zero r rest e = (omega arith, cc, cc)
@@ -53,7 +52,7 @@ abbrev pub Finds : (Version → Bool) → List Row → Option Candidate → opti
 Finds p table None option.none = Unit {0}
 Finds p table None (option.some v) = ⊥
 Finds p table (Some n) option.none = ⊥
-Finds p table (Some n) (option.some v) = (n.row < length table) × (get_or table n.row Vacant ≡ Held v) × (n.begin ≡ v.stamp.begin) × (p v ≡ true)
+Finds p table (Some n) (option.some v) = (n.row < length table) × (get_or table n.row None ≡ Some v) × (n.begin ≡ v.stamp.begin) × (p v ≡ true)
 
 module _ (pick : Version → option.Option Version → Version) where
   -- what was found so far, and what the rest gives
@@ -75,11 +74,11 @@ module _ (pick : Version → option.Option Version → Version) where
     finds_from [] i e None (option.some v) f = absurd f
     finds_from [] i e (Some b) option.none f = absurd f
     finds_from [] i e (Some b) (option.some u) f = subst (λ (v : Version). Finds p table (Some b) (option.some v)) (sym (alone u)) f
-    finds_from (Vacant ∷ rows) i e best u f = finds_from rows (i + 1) (ap (λ k. drop k table) (add-one i) ∙ (at_drop table i Vacant rows e).2) best u f
-    finds_from (Held w ∷ rows) i e best u f = go (p w) refl (λ b x h. finds_from rows (i + 1) (ap (λ k. drop k table) (add-one i) ∙ (at_drop table i (Held w) rows e).2) b x h)
+    finds_from (None ∷ rows) i e best u f = finds_from rows (i + 1) (ap (λ k. drop k table) (add-one i) ∙ (at_drop table i None rows e).2) best u f
+    finds_from (Some w ∷ rows) i e best u f = go (p w) refl (λ b x h. finds_from rows (i + 1) (ap (λ k. drop k table) (add-one i) ∙ (at_drop table i (Some w) rows e).2) b x h)
       where
-        at : (i < length table) × (get_or table i Vacant ≡ Held w) × (drop (suc i) table ≡ rows)
-        at = at_drop table i (Held w) rows e
+        at : (i < length table) × (get_or table i None ≡ Some w) × (drop (suc i) table ≡ rows)
+        at = at_drop table i (Some w) rows e
 
         go : (k : Bool) → p w ≡ k → ((b : Option Candidate) (x : option.Option Version) → Finds p table b x → Finds p table (best_from better p (i + 1) rows b) (and_then x (best_of pick p (in_rows rows)))) →
             Finds p table (best_from better p (i + 1) rows (cond k (better best (candidate i w)) best)) (and_then u (cond k (option.some (pick w (best_of pick p (in_rows rows)))) (best_of pick p (in_rows rows))))
@@ -150,13 +149,13 @@ finds_highest p table = finds higher higher_of p table (λ n. refl) (λ v. refl)
 abbrev pub Distinct : List Version → Type 0
 Distinct l = Pairs (λ u v. u.stamp.begin ≢ v.stamp.begin) l
 
-pub all_at : (P : Version → Type 0) (rows : List Row) (i : ℕ) (v : Version) → get_or rows i Vacant ≡ Held v → AllByRecursion P (in_rows rows) → P v
+pub all_at : (P : Version → Type 0) (rows : List Row) (i : ℕ) (v : Version) → get_or rows i None ≡ Some v → AllByRecursion P (in_rows rows) → P v
 all_at P [] zero v e a = differ e
 all_at P [] (suc i) v e a = differ e
-all_at P (Vacant ∷ rows) zero v e a = differ e
-all_at P (Vacant ∷ rows) (suc i) v e a = all_at P rows i v e a
-all_at P (Held u ∷ rows) zero v e a = subst P (same_version e) a.0
-all_at P (Held u ∷ rows) (suc i) v e a = all_at P rows i v e a.1
+all_at P (None ∷ rows) zero v e a = differ e
+all_at P (None ∷ rows) (suc i) v e a = all_at P rows i v e a
+all_at P (Some u ∷ rows) zero v e a = subst P (same_version e) a.0
+all_at P (Some u ∷ rows) (suc i) v e a = all_at P rows i v e a.1
 
 unsent : (b : ℕ) (u : Version) → u.stamp.begin ≢ b → send_one b u ≡ u
 unsent b u h = go (is_waiting u.state) (eqb u.stamp.begin b) (grind (arith, nat_tests))
@@ -167,26 +166,26 @@ unsent b u h = go (is_waiting u.state) (eqb u.stamp.begin b) (grind (arith, nat_
 
 unsent_all : (b : ℕ) (rows : List Row) → AllByRecursion (λ u. b ≢ u.stamp.begin) (in_rows rows) → change (send_one b) rows ≡ rows
 unsent_all b [] a = refl
-unsent_all b (Vacant ∷ rows) a = ap (λ l. Vacant ∷ l) (unsent_all b rows a)
-unsent_all b (Held u ∷ rows) a = let h = unsent b u (λ e. a.0 (sym e)) in rw (h, unsent_all b rows a.1)
+unsent_all b (None ∷ rows) a = ap (λ l. None ∷ l) (unsent_all b rows a)
+unsent_all b (Some u ∷ rows) a = let h = unsent b u (λ e. a.0 (sym e)) in rw (h, unsent_all b rows a.1)
 
 sent_here : (v : Version) → is_waiting v.state ≡ true → send_one v.stamp.begin v ≡ in_state Sent v
 sent_here v w = let e : eqb v.stamp.begin v.stamp.begin ≡ true = grind (arith, nat_tests) in rw (w, e)
 
-sent_row : (rows : List Row) (i : ℕ) (v : Version) → get_or rows i Vacant ≡ Held v → is_waiting v.state ≡ true → Distinct (in_rows rows) →
-    set rows i (Held (in_state Sent v)) ≡ change (send_one v.stamp.begin) rows
+sent_row : (rows : List Row) (i : ℕ) (v : Version) → get_or rows i None ≡ Some v → is_waiting v.state ≡ true → Distinct (in_rows rows) →
+    set rows i (Some (in_state Sent v)) ≡ change (send_one v.stamp.begin) rows
 sent_row [] zero v e w d = differ e
 sent_row [] (suc i) v e w d = differ e
-sent_row (Vacant ∷ rows) zero v e w d = differ e
-sent_row (Vacant ∷ rows) (suc i) v e w d = ap (λ l. Vacant ∷ l) (sent_row rows i v e w d)
-sent_row (Held u ∷ rows) zero v e w d =
+sent_row (None ∷ rows) zero v e w d = differ e
+sent_row (None ∷ rows) (suc i) v e w d = ap (λ l. None ∷ l) (sent_row rows i v e w d)
+sent_row (Some u ∷ rows) zero v e w d =
     let same = same_version e in
     let others = subst (λ (x : Version). AllByRecursion (λ y. x.stamp.begin ≢ y.stamp.begin) (in_rows rows)) same d.0 in
     rw (same, sent_here v w, unsent_all v.stamp.begin rows others)
-sent_row (Held u ∷ rows) (suc i) v e w d =
+sent_row (Some u ∷ rows) (suc i) v e w d =
     let h = unsent v.stamp.begin u (all_at (λ y. u.stamp.begin ≢ y.stamp.begin) rows i v e d.0) in
-    rw h (ap (λ l. Held u ∷ l) (sent_row rows i v e w d.1))
+    rw h (ap (λ l. Some u ∷ l) (sent_row rows i v e w d.1))
 
-pub marks_one : (rows : List Row) (i : ℕ) (v : Version) → get_or rows i Vacant ≡ Held v → is_waiting v.state ≡ true → Distinct (in_rows rows) →
+pub marks_one : (rows : List Row) (i : ℕ) (v : Version) → get_or rows i None ≡ Some v → is_waiting v.state ≡ true → Distinct (in_rows rows) →
     mark_sent rows i ≡ change (send_one v.stamp.begin) rows
-marks_one rows i v e w d = ap (λ r. set rows i (on_held (in_state Sent) r)) e ∙ sent_row rows i v e w d
+marks_one rows i v e w d = ap (λ r. set rows i (option_map (in_state Sent) r)) e ∙ sent_row rows i v e w d

@@ -1,17 +1,15 @@
 -- Versions put in the order of begin marks, and what scans in any order find of them.
-use Rattle.std.proofs.Common.{◌≡◌, ◌+◌, ◌<◌, ◌≤◌, Bool, true, false, cond, ◌||◌, ltb, List, [], ◌∷◌, ◌++◌, map, length, filter, sym, refl, ap, ◌∙◌, ap₂, arith}
+use Rattle.std.proofs.Common.{◌≡◌, ◌+◌, ◌<◌, ◌≤◌, Bool, true, false, cond, ◌||◌, ltb, List, [], ◌∷◌, ◌++◌, map, length, filter, sym, refl, ap, ◌∙◌, ap₂, arith, None, Some}
 use mathlib.Core.Option.{Option, none, some}
-use Rattle.table.specs.declared.held.Row.TheVariants.{Vacant, Held}
 use Rattle.std.specs.List.{AllByRecursion}
 use Rattle.std.proofs.lemmas.Bool.{ltb-true, ltb-false, lt-ltb, le-ltb, cond_both, both_ways}
 use Rattle.std.proofs.ByRecursion.{All-weaker, all_kept_by}
 use Rattle.table.specs.declared.held.Version.{Version}
-use Rattle.table.specs.declared.held.Row.{Row}
 use Rattle.table.specs.Versions.{some_pass}
 use Rattle.ordered_law.specs.Ledger.{first}
 use Rattle.ordered_law.proofs.Sorted.{last, or_else}
 use Rattle.ordered_law.specs.Promise.{Pairs}
-use Rattle.table.specs.Rows.{in_rows, put}
+use Rattle.table.specs.Rows.{Row, in_rows, put}
 use Rattle.ordered_law.proofs.Picking.{lower, higher, lowest, highest}
 use Rattle.table.proofs.Rowing.{some_vacant}
 
@@ -198,8 +196,8 @@ insert_before u v lt (x ∷ l) = go (ltb u.stamp.begin x.stamp.begin) (insert_be
 pub in_order_put : (v : Version) (rows : List Row) → some_vacant rows ≡ true → AllByRecursion (λ u. u.stamp.begin < v.stamp.begin) (in_rows rows) →
     in_order (in_rows (put v rows)) ≡ in_order (in_rows rows) ++ v ∷ []
 in_order_put v [] e a = absurd (both_ways false refl e)
-in_order_put v (Vacant ∷ rows) e a = insert_last v (in_order (in_rows rows)) (all_in_order (λ u. u.stamp.begin < v.stamp.begin) (in_rows rows) a)
-in_order_put v (Held u ∷ rows) e a = ap (insert u) (in_order_put v rows e a.1) ∙ insert_before u v a.0 (in_order (in_rows rows))
+in_order_put v (None ∷ rows) e a = insert_last v (in_order (in_rows rows)) (all_in_order (λ u. u.stamp.begin < v.stamp.begin) (in_rows rows) a)
+in_order_put v (Some u ∷ rows) e a = ap (insert u) (in_order_put v rows e a.1) ∙ insert_before u v a.0 (in_order (in_rows rows))
 
 -- ---- and back
 

@@ -12,13 +12,11 @@ use Rattle.errors.specs.declared.CacheError.TheVariants as error
 use Rattle.errors.specs.Errors.{during_call}
 use Rattle.precedence.specs.Stamps.{Precedence}
 use Rattle.table.specs.declared.held.Version.{Version}
-use Rattle.table.specs.declared.held.Row.{Row}
-use Rattle.table.specs.declared.held.Row.TheVariants.{Vacant}
 use Rattle.table.specs.declared.scan.Candidate.{Candidate}
 use Rattle.table.specs.declared.tally.Counts.{Counts}
 use Rattle.table.specs.declared.tally.Tally.{Tally}
 use Rattle.table.specs.Versions.{is_open, is_waiting, is_sent, some_pass, count, reserved, room, has_ticket, begun, finish_one, withdraw_one, bring_home, wait_again}
-use Rattle.table.specs.Rows.{in_rows, no_rows, stamp_of, bytes_of, put, change, leave, mark_sent}
+use Rattle.table.specs.Rows.{Row, in_rows, no_rows, stamp_of, bytes_of, put, change, leave, mark_sent}
 use Rattle.table.specs.Scans.{lowest_ready, newest_at}
 use Rattle.ordered_law.specs.Device.{Device}
 use Rattle.ordered_law.specs.Events.{Call, Begin, Finish, Withdraw, Read, Step, Restart, Count, Answer, took, shown, counted, refused}
@@ -140,7 +138,7 @@ read_disk device place c met = record {
 
 -- the newest finished write of the place in the table, or else the disk
 abbrev pub read_through : Device → ℕ → ℕ → Cache → Option Candidate → Outcome
-read_through device place n c (Some newest) = record { answer = shown (bytes_of (slice_index_or c.rows newest.row Vacant)); cache = c }
+read_through device place n c (Some newest) = record { answer = shown (bytes_of (slice_index_or c.rows newest.row None)); cache = c }
 read_through device place n c None = read_disk device place c (fate c.medium place n)
 
 abbrev pub read_call : Device → ℕ → ℕ → Cache → Outcome
@@ -201,7 +199,7 @@ abbrev pub any_busy : List Version → Bool
 any_busy table = some_pass (λ v. is_waiting v.state || is_sent v.state) table
 
 abbrev pub step_with : Device → Cache → Option Candidate → Outcome
-step_with device c (Some n) = send_call device n.row (slice_index_or c.rows n.row Vacant) c
+step_with device c (Some n) = send_call device n.row (slice_index_or c.rows n.row None) c
 step_with device c None = cond (any_sent (in_rows c.rows)) (flush_call device c (planned c.medium)) (record { answer = took 3; cache = c })
 
 -- Idle with nothing waiting or sent; else the ready write of lowest begin mark is written; else the disk is flushed, if

@@ -1,52 +1,16 @@
--- One more row of a scan.
-use Rattle.std.proofs.Common.{◌≡◌, ℕ, zero, suc, ◌+◌, ◌<◌, ◌≤◌, Bool, true, false, cond, not, ◌||◌, List, [], ◌∷◌, map, length, get_or, drop, set, Some, None, filter, Option, sym, refl, ap, ◌∙◌, add-one, arith, drop-cons}
+-- What a change, and one more version, do to the counts of a table, and its first vacant row.
+use Rattle.std.proofs.Common.{◌≡◌, ℕ, zero, suc, ◌+◌, ◌<◌, ◌≤◌, Bool, true, false, cond, not, ◌||◌, List, [], ◌∷◌, map, length, set, Some, None, filter, Option, sym, refl, ap, ◌∙◌, arith}
 use borrow.Author.Tests.{clash}
-use Rattle.std.proofs.lemmas.List.{drop_all}
 use Rattle.table.specs.declared.held.Version.{Version}
-use Rattle.table.specs.declared.held.Row.{Row}
-use Rattle.table.specs.declared.held.Row.TheVariants.{Vacant, Held}
 use Rattle.table.specs.declared.held.Change.{Change}
 use Rattle.table.specs.declared.held.Change.TheVariants as change_of
 use Rattle.table.specs.declared.held.State.{State}
 use Rattle.table.specs.declared.held.State.TheVariants.{Sent}
 use Rattle.table.specs.Versions.{live, reserves, is_sent, has_ticket, in_state, finish_one, withdraw_one, bring_home, wait_again, some_pass, count, reserved, gone_count, room}
-use Rattle.table.specs.Rows.{in_rows, row_passes, is_vacant, put, Vacancy, change, keeping, leave, changed, finishes, ending, leaving, mark_sent}
+use Rattle.table.specs.Rows.{Row, in_rows, put, Vacancy, change, keeping, leave, changed, finishes, ending, leaving, mark_sent}
 use Rattle.std.proofs.lemmas.Bool.Decides.{nat_tests}
-
-module _ (p : Version → Bool) where
-  some_head : (r : Row) (rest : List Row) → some_pass p (in_rows (r ∷ rest)) ≡ (row_passes p r || some_pass p (in_rows rest))
-  some_head Vacant rest = refl
-  some_head (Held v) rest = refl
-
-  abbrev pub found : List Row → ℕ
-  found rows = length (filter p (in_rows rows))
-
-  count_head : (r : Row) (rest : List Row) → found (r ∷ rest) ≡ cond (row_passes p r) 1 0 + found rest
-  count_head Vacant rest = omega arith
-  count_head (Held v) rest = go (p v)
-    where
-      go : (k : Bool) → length (cond k (v ∷ filter p (in_rows rest)) (filter p (in_rows rest))) ≡ cond k 1 0 + found rest
-      go true = omega arith
-      go false = omega arith
-
-  module _ (rows : List Row) (i : ℕ) (d : Row) (h : i < length rows) where
-    opened : some_pass p (in_rows (drop i rows)) ≡ (row_passes p (get_or rows i d) || some_pass p (in_rows (drop (i + 1) rows)))
-    opened = rw (add-one i) (ap (λ l. some_pass p (in_rows l)) (drop-cons rows i d h) ∙ some_head (get_or rows i d) (drop (suc i) rows))
-
-    pub some_here : row_passes p (get_or rows i d) ≡ true → some_pass p (in_rows (drop i rows)) ≡ true
-    some_here e = opened ∙ ap (λ b. b || some_pass p (in_rows (drop (i + 1) rows))) e
-
-    pub some_later : row_passes p (get_or rows i d) ≡ false → some_pass p (in_rows (drop i rows)) ≡ some_pass p (in_rows (drop (i + 1) rows))
-    some_later e = opened ∙ ap (λ b. b || some_pass p (in_rows (drop (i + 1) rows))) e
-
-    pub count_more : found (drop i rows) ≡ cond (row_passes p (get_or rows i d)) 1 0 + found (drop (i + 1) rows)
-    count_more = rw (add-one i) (ap found (drop-cons rows i d h) ∙ count_head (get_or rows i d) (drop (suc i) rows))
-
-  pub some_end : (rows : List Row) (i : ℕ) → length rows ≤ i → some_pass p (in_rows (drop i rows)) ≡ false
-  some_end rows i h = rw (drop_all i rows h)
-
-  pub count_end : (rows : List Row) (i : ℕ) → length rows ≤ i → found (drop i rows) ≡ 0
-  count_end rows i h = rw (drop_all i rows h)
+use Rattle.std.specs.List.{position_from}
+use Rattle.std.specs.Option.{is_none}
 
 -- ---- counts
 
@@ -64,15 +28,15 @@ module _ (p : State → Bool) where
 
   pub count_put : (v : Version) (rows : List Row) → count p (in_rows (put v rows)) ≤ count p (in_rows rows) + 1
   count_put v [] = omega arith
-  count_put v (Vacant ∷ rows) = one_more (pick v) v (filter pick (in_rows rows))
-  count_put v (Held u ∷ rows) = same_more (pick u) u (filter pick (in_rows (put v rows))) (filter pick (in_rows rows)) 1 (count_put v rows)
+  count_put v (None ∷ rows) = one_more (pick v) v (filter pick (in_rows rows))
+  count_put v (Some u ∷ rows) = same_more (pick u) u (filter pick (in_rows (put v rows))) (filter pick (in_rows rows)) 1 (count_put v rows)
 
   -- a change after which no further version passes, and those that q names no longer do
   fewer : (g : Version → Version) (q : Version → Bool) → ((v : Version) → pick (g v) ≡ true → pick v ≡ true) → ((v : Version) → q v ≡ true → (pick v ≡ true) × (pick (g v) ≡ false)) →
       (rows : List Row) → count p (in_rows (change g rows)) + cond (some_pass q (in_rows rows)) 1 0 ≤ count p (in_rows rows)
   fewer g q h w [] = omega arith
-  fewer g q h w (Vacant ∷ rows) = fewer g q h w rows
-  fewer g q h w (Held v ∷ rows) = go (q v) (pick (g v)) (pick v) (some_pass q (in_rows rows)) (h v) (w v) (fewer g q h w rows)
+  fewer g q h w (None ∷ rows) = fewer g q h w rows
+  fewer g q h w (Some v ∷ rows) = go (q v) (pick (g v)) (pick v) (some_pass q (in_rows rows)) (h v) (w v) (fewer g q h w rows)
     where
       L : List Version
       L = filter pick (in_rows (change g rows))
@@ -92,8 +56,8 @@ module _ (p : State → Bool) where
   -- a change after which those pass that q names
   more : (g : Version → Version) (q : Version → Bool) → ((v : Version) → q v ≡ true → pick (g v) ≡ true) → (rows : List Row) → length (filter q (in_rows rows)) ≤ count p (in_rows (change g rows))
   more g q h [] = omega arith
-  more g q h (Vacant ∷ rows) = more g q h rows
-  more g q h (Held v ∷ rows) = go (q v) (pick (g v)) (h v) (more g q h rows)
+  more g q h (None ∷ rows) = more g q h rows
+  more g q h (Some v ∷ rows) = go (q v) (pick (g v)) (h v) (more g q h rows)
     where
       L : List Version
       L = filter q (in_rows rows)
@@ -109,10 +73,10 @@ module _ (p : State → Bool) where
 
   fewer_kept : (q : Version → Bool) (rows : List Row) → count p (in_rows (map (keeping q) rows)) ≤ count p (in_rows rows)
   fewer_kept q [] = omega arith
-  fewer_kept q (Vacant ∷ rows) = fewer_kept q rows
-  fewer_kept q (Held v ∷ rows) = go (q v) (pick v) refl (fewer_kept q rows)
+  fewer_kept q (None ∷ rows) = fewer_kept q rows
+  fewer_kept q (Some v ∷ rows) = go (q v) (pick v) refl (fewer_kept q rows)
     where
-      go : (k a : Bool) → pick v ≡ a → count p (in_rows (map (keeping q) rows)) ≤ count p (in_rows rows) → count p (in_rows (cond k (Held v) Vacant ∷ map (keeping q) rows)) ≤ length (cond a (v ∷ filter pick (in_rows rows)) (filter pick (in_rows rows)))
+      go : (k a : Bool) → pick v ≡ a → count p (in_rows (map (keeping q) rows)) ≤ count p (in_rows rows) → count p (in_rows (cond k (Some v) None ∷ map (keeping q) rows)) ≤ length (cond a (v ∷ filter pick (in_rows rows)) (filter pick (in_rows rows)))
       go false true e le = omega arith
       go false false e le = le
       go true true e le = rw e (omega arith)
@@ -128,19 +92,19 @@ one_passes q (v ∷ l) = go (q v) (some_pass q l) (one_passes q l)
 
 same_held : (g : Version → Version) (rows : List Row) → length (in_rows (change g rows)) ≡ length (in_rows rows)
 same_held g [] = refl
-same_held g (Vacant ∷ rows) = same_held g rows
-same_held g (Held v ∷ rows) = omega (arith, same_held g rows)
+same_held g (None ∷ rows) = same_held g rows
+same_held g (Some v ∷ rows) = omega (arith, same_held g rows)
 
 left : (rows : List Row) → length (in_rows (leave rows)) + gone_count (in_rows rows) ≡ length (in_rows rows)
 left [] = omega arith
-left (Vacant ∷ rows) = left rows
-left (Held v ∷ rows) = go (live v.state) (left rows)
+left (None ∷ rows) = left rows
+left (Some v ∷ rows) = go (live v.state) (left rows)
   where
     G : List Version
     G = filter (λ u. not (live u.state)) (in_rows rows)
 
     go : (k : Bool) → length (in_rows (leave rows)) + length G ≡ length (in_rows rows) →
-        length (in_rows (cond k (Held v) Vacant ∷ leave rows)) + length (cond (not k) (v ∷ G) G) ≡ suc (length (in_rows rows))
+        length (in_rows (cond k (Some v) None ∷ leave rows)) + length (cond (not k) (v ∷ G) G) ≡ suc (length (in_rows rows))
     go true ih = omega arith
     go false ih = omega arith
 
@@ -185,8 +149,8 @@ room_changed change_of.Leave rows = omega (arith, left rows)
 
 pub marks_sent : (rows : List Row) (i : ℕ) → reserved (in_rows (mark_sent rows i)) ≤ reserved (in_rows rows)
 marks_sent [] i = omega arith
-marks_sent (Vacant ∷ rows) zero = omega arith
-marks_sent (Held v ∷ rows) zero = go (reserves v.state)
+marks_sent (None ∷ rows) zero = omega arith
+marks_sent (Some v ∷ rows) zero = go (reserves v.state)
   where
     L : List Version
     L = filter (λ u. reserves u.state) (in_rows rows)
@@ -194,44 +158,38 @@ marks_sent (Held v ∷ rows) zero = go (reserves v.state)
     go : (k : Bool) → reserved (in_rows rows) ≤ length (cond k (v ∷ L) L)
     go true = omega arith
     go false = omega arith
-marks_sent (Vacant ∷ rows) (suc i) = marks_sent rows i
-marks_sent (Held v ∷ rows) (suc i) = let h = marks_sent rows i in
+marks_sent (None ∷ rows) (suc i) = marks_sent rows i
+marks_sent (Some v ∷ rows) (suc i) = let h = marks_sent rows i in
     let g = same_more reserves (reserves v.state) v (filter (λ u. reserves u.state) (in_rows (mark_sent rows i))) (filter (λ u. reserves u.state) (in_rows rows)) 0 (omega arith) in omega arith
 
 pub held_sent : (rows : List Row) (i : ℕ) → length (in_rows (mark_sent rows i)) ≤ length (in_rows rows)
 held_sent [] i = omega arith
-held_sent (Vacant ∷ rows) zero = omega arith
-held_sent (Held v ∷ rows) zero = omega arith
-held_sent (Vacant ∷ rows) (suc i) = held_sent rows i
-held_sent (Held v ∷ rows) (suc i) = omega (arith, held_sent rows i)
+held_sent (None ∷ rows) zero = omega arith
+held_sent (Some v ∷ rows) zero = omega arith
+held_sent (None ∷ rows) (suc i) = held_sent rows i
+held_sent (Some v ∷ rows) (suc i) = omega (arith, held_sent rows i)
 
 -- ---- the first vacant row
 
--- the first vacant row, counted from i
-abbrev pub vacant_from : ℕ → List Row → Option ℕ
-vacant_from i [] = None
-vacant_from i (Vacant ∷ rows) = Some i
-vacant_from i (Held v ∷ rows) = vacant_from (i + 1) rows
-
 abbrev pub some_vacant : List Row → Bool
 some_vacant [] = false
-some_vacant (Vacant ∷ rows) = true
-some_vacant (Held v ∷ rows) = some_vacant rows
+some_vacant (None ∷ rows) = true
+some_vacant (Some v ∷ rows) = some_vacant rows
 
-few : (rows : List Row) → length (in_rows rows) ≤ length rows
+pub few : (rows : List Row) → length (in_rows rows) ≤ length rows
 few [] = omega arith
-few (Vacant ∷ rows) = omega (arith, few rows)
-few (Held v ∷ rows) = omega (arith, few rows)
+few (None ∷ rows) = omega (arith, few rows)
+few (Some v ∷ rows) = omega (arith, few rows)
 
 vacant_less : (rows : List Row) → some_vacant rows ≡ true → length (in_rows rows) < length rows
 vacant_less [] e = absurd (clash e)
-vacant_less (Vacant ∷ rows) e = omega (arith, few rows)
-vacant_less (Held v ∷ rows) e = omega (arith, vacant_less rows e)
+vacant_less (None ∷ rows) e = omega (arith, few rows)
+vacant_less (Some v ∷ rows) e = omega (arith, vacant_less rows e)
 
 full_all : (rows : List Row) → some_vacant rows ≡ false → length (in_rows rows) ≡ length rows
 full_all [] e = refl
-full_all (Vacant ∷ rows) e = absurd (clash (sym e))
-full_all (Held v ∷ rows) e = omega (arith, full_all rows e)
+full_all (None ∷ rows) e = absurd (clash (sym e))
+full_all (Some v ∷ rows) e = omega (arith, full_all rows e)
 
 -- of 32 rows one is vacant just if there is room
 pub room_is : (rows : List Row) → length rows ≡ 32 → room (in_rows rows) ≡ some_vacant rows
@@ -243,44 +201,27 @@ room_is rows n = go (some_vacant rows) refl
 
 put_held : (v : Version) (rows : List Row) → length (in_rows (put v rows)) ≤ length (in_rows rows) + 1
 put_held v [] = omega arith
-put_held v (Vacant ∷ rows) = omega arith
-put_held v (Held u ∷ rows) = omega (arith, put_held v rows)
-
-vacant_row : (r : Row) (i : ℕ) (rest : List Row) → vacant_from i (r ∷ rest) ≡ cond (is_vacant r) (Some i) (vacant_from (i + 1) rest)
-vacant_row Vacant i rest = refl
-vacant_row (Held v) i rest = refl
-
-module _ (rows : List Row) (i : ℕ) (d : Row) (h : i < length rows) where
-  vacant_step : vacant_from i (drop i rows) ≡ cond (is_vacant (get_or rows i d)) (Some i) (vacant_from (i + 1) (drop (i + 1) rows))
-  vacant_step = ap (vacant_from i) (drop-cons rows i d h) ∙ vacant_row (get_or rows i d) i (drop (suc i) rows) ∙ ap (λ k. cond (is_vacant (get_or rows i d)) (Some i) (vacant_from (i + 1) (drop k rows))) (sym (add-one i))
-
-  pub vacant_here : is_vacant (get_or rows i d) ≡ true → vacant_from i (drop i rows) ≡ Some i
-  vacant_here e = vacant_step ∙ ap (λ b. cond b (Some i) (vacant_from (i + 1) (drop (i + 1) rows))) e
-
-  pub vacant_later : is_vacant (get_or rows i d) ≡ false → vacant_from i (drop i rows) ≡ vacant_from (i + 1) (drop (i + 1) rows)
-  vacant_later e = vacant_step ∙ ap (λ b. cond b (Some i) (vacant_from (i + 1) (drop (i + 1) rows))) e
-
-pub vacant_end : (rows : List Row) (i : ℕ) → length rows ≤ i → vacant_from i (drop i rows) ≡ None
-vacant_end rows i h = rw (drop_all i rows h)
+put_held v (None ∷ rows) = omega arith
+put_held v (Some u ∷ rows) = omega (arith, put_held v rows)
 
 abbrev VacantAt : ℕ → List Row → Option ℕ → Type 0
 VacantAt n rows None = some_vacant rows ≡ false
-VacantAt n rows (Some i) = (k : ℕ) × (i ≡ n + k) × (k < length rows) × (some_vacant rows ≡ true) × ((v : Version) → put v rows ≡ set rows k (Held v))
+VacantAt n rows (Some i) = (k : ℕ) × (i ≡ n + k) × (k < length rows) × (some_vacant rows ≡ true) × ((v : Version) → put v rows ≡ set rows k (Some v))
 
-vacant_at : (n : ℕ) (rows : List Row) → VacantAt n rows (vacant_from n rows)
+vacant_at : (n : ℕ) (rows : List Row) → VacantAt n rows (position_from is_none n rows)
 vacant_at n [] = refl
-vacant_at n (Vacant ∷ rows) = (0, omega arith, omega arith, refl, λ v. refl)
-vacant_at n (Held u ∷ rows) = go (vacant_from (n + 1) rows) (vacant_at (n + 1) rows)
+vacant_at n (None ∷ rows) = (0, omega arith, omega arith, refl, λ v. refl)
+vacant_at n (Some u ∷ rows) = go (position_from is_none (n + 1) rows) (vacant_at (n + 1) rows)
   where
-    go : (o : Option ℕ) → VacantAt (n + 1) rows o → VacantAt n (Held u ∷ rows) o
+    go : (o : Option ℕ) → VacantAt (n + 1) rows o → VacantAt n (Some u ∷ rows) o
     go None e = e
-    go (Some i) (k, e, lt, s, at) = (suc k, omega arith, omega arith, s, λ v. ap (λ l. Held u ∷ l) (at v))
+    go (Some i) (k, e, lt, s, at) = (suc k, omega arith, omega arith, s, λ v. ap (λ l. Some u ∷ l) (at v))
 
-pub vacancy : (rows : List Row) → length rows ≡ 32 → Vacancy rows (vacant_from 0 rows)
-vacancy rows n = go (vacant_from 0 rows) (vacant_at 0 rows)
+pub vacancy : (rows : List Row) → length rows ≡ 32 → Vacancy rows (position_from is_none 0 rows)
+vacancy rows n = go (position_from is_none 0 rows) (vacant_at 0 rows)
   where
     go : (o : Option ℕ) → VacantAt 0 rows o → Vacancy rows o
     go None e = room_is rows n ∙ e
     go (Some i) (k, e, lt, s, at) =
         let same : i ≡ k = omega arith in
-        (omega arith, room_is rows n ∙ s, (λ v. at v ∙ ap (λ j. set rows j (Held v)) (sym same)), (λ v. rw (same, ← at v) (count_put reserves v rows)), λ v. rw (same, ← at v) (put_held v rows))
+        (omega arith, room_is rows n ∙ s, (λ v. at v ∙ ap (λ j. set rows j (Some v)) (sym same)), (λ v. rw (same, ← at v) (count_put reserves v rows)), λ v. rw (same, ← at v) (put_held v rows))

@@ -1,37 +1,33 @@
 -- The rows of a table, each vacant or holding a version.
-use Rattle.std.specs.Prelude.{◌≡◌, ℕ, ◌+◌, ◌<◌, ◌≤◌, Bool, true, false, cond, ◌&&◌, ◌||◌, List, [], ◌∷◌, map, length, replicate, Some, None, Option, ◌==◌, slice_index_or, slice_set}
+use Rattle.std.specs.Prelude.{◌≡◌, ℕ, ◌+◌, ◌<◌, ◌≤◌, Bool, true, false, cond, ◌&&◌, ◌||◌, List, [], ◌∷◌, map, length, replicate, Some, None, Option, ◌==◌, slice_index_or, slice_set, flat_map, option_to_list, option_map}
 use Rattle.precedence.specs.declared.Stamp.{Stamp}
 use Rattle.precedence.specs.Stamps.{begun_at}
 use Rattle.table.specs.declared.held.State.TheVariants.{Sent}
 use Rattle.table.specs.declared.held.Version.{Version}
-use Rattle.table.specs.declared.held.Row.{Row}
-use Rattle.table.specs.declared.held.Row.TheVariants.{Vacant, Held}
 use Rattle.table.specs.declared.held.Query.{Query}
 use Rattle.table.specs.declared.held.Query.TheVariants as query
 use Rattle.table.specs.declared.held.Change.{Change}
 use Rattle.table.specs.declared.held.Change.TheVariants as change_of
 use Rattle.table.specs.Versions.{live, is_open, reserves, is_waiting, is_sent, some_pass, count, reserved, gone_count, capacity, room, in_state, has_ticket, finish_one, withdraw_one, bring_home, wait_again, finished_in}
 
+-- a row, vacant or with the version that it holds
+abbrev pub Row : Type 0
+Row = Option Version
+
 -- the versions held, by row
 abbrev pub in_rows : List Row → List Version
-in_rows [] = []
-in_rows (Vacant ∷ rows) = in_rows rows
-in_rows (Held v ∷ rows) = v ∷ in_rows rows
+in_rows rows = flat_map option_to_list rows
 
 abbrev pub no_rows : List Row
-no_rows = replicate capacity Vacant
-
-abbrev pub is_vacant : Row → Bool
-is_vacant Vacant = true
-is_vacant (Held v) = false
+no_rows = replicate capacity None
 
 abbrev pub stamp_of : Row → Stamp
-stamp_of Vacant = begun_at 0 0
-stamp_of (Held v) = v.stamp
+stamp_of None = begun_at 0 0
+stamp_of (Some v) = v.stamp
 
 abbrev pub bytes_of : Row → List ℕ
-bytes_of Vacant = replicate 512 0
-bytes_of (Held v) = v.bytes
+bytes_of None = replicate 512 0
+bytes_of (Some v) = v.bytes
 
 -- ---- queries
 
@@ -45,55 +41,47 @@ test query.Sent v = is_sent v.state
 test query.Busy v = is_waiting v.state || is_sent v.state
 test (query.FinishedAt place) v = finished_in place v
 
-abbrev pub row_passes : (Version → Bool) → Row → Bool
-row_passes p Vacant = false
-row_passes p (Held v) = p v
-
 -- ---- a version more
 
 -- the version goes into the lowest vacant row
 abbrev pub put : Version → List Row → List Row
 put v [] = []
-put v (Vacant ∷ rows) = Held v ∷ rows
-put v (Held u ∷ rows) = Held u ∷ put v rows
+put v (None ∷ rows) = Some v ∷ rows
+put v (Some u ∷ rows) = Some u ∷ put v rows
 
 -- there is no room, or this is the row into which a version goes
 abbrev pub Vacancy : List Row → Option ℕ → Type 0
 Vacancy rows None = room (in_rows rows) ≡ false
 Vacancy rows (Some i) =
-    (i < capacity) × (room (in_rows rows) ≡ true) × ((v : Version) → put v rows ≡ slice_set rows i (Held v))
-    × ((v : Version) → reserved (in_rows (slice_set rows i (Held v))) ≤ reserved (in_rows rows) + 1)
-    × ((v : Version) → length (in_rows (slice_set rows i (Held v))) ≤ length (in_rows rows) + 1)
+    (i < capacity) × (room (in_rows rows) ≡ true) × ((v : Version) → put v rows ≡ slice_set rows i (Some v))
+    × ((v : Version) → reserved (in_rows (slice_set rows i (Some v))) ≤ reserved (in_rows rows) + 1)
+    × ((v : Version) → length (in_rows (slice_set rows i (Some v))) ≤ length (in_rows rows) + 1)
 
 -- ---- changes
 
-abbrev pub on_held : (Version → Version) → Row → Row
-on_held g Vacant = Vacant
-on_held g (Held v) = Held (g v)
-
 -- a version that does not pass leaves its row
 abbrev pub keeping : (Version → Bool) → Row → Row
-keeping p Vacant = Vacant
-keeping p (Held v) = cond (p v) (Held v) Vacant
+keeping p None = None
+keeping p (Some v) = cond (p v) (Some v) None
 
 abbrev pub change : (Version → Version) → List Row → List Row
-change g rows = map (on_held g) rows
+change g rows = map (option_map g) rows
 
 -- Leaving the table: what is home or withdrawn leaves its row, and no other row changes.
 abbrev pub leave : List Row → List Row
 leave rows = map (keeping (λ v. live v.state)) rows
 
 abbrev pub changed : Change → Row → Row
-changed (change_of.Finish t f) row = on_held (finish_one t f) row
-changed (change_of.Withdraw t) row = on_held (withdraw_one t) row
-changed change_of.Send row = on_held (in_state Sent) row
-changed change_of.BringHome row = on_held bring_home row
-changed change_of.WaitAgain row = on_held wait_again row
+changed (change_of.Finish t f) row = option_map (finish_one t f) row
+changed (change_of.Withdraw t) row = option_map (withdraw_one t) row
+changed change_of.Send row = option_map (in_state Sent) row
+changed change_of.BringHome row = option_map bring_home row
+changed change_of.WaitAgain row = option_map wait_again row
 changed change_of.Leave row = keeping (λ v. live v.state) row
 
 -- row i is sent, and no other row changes
 abbrev pub mark_sent : List Row → ℕ → List Row
-mark_sent rows i = slice_set rows i (changed change_of.Send (slice_index_or rows i Vacant))
+mark_sent rows i = slice_set rows i (changed change_of.Send (slice_index_or rows i None))
 
 -- ---- what a change does to the counts
 

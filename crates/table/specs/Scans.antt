@@ -3,11 +3,9 @@ use Rattle.std.specs.Prelude.{◌≡◌, ℕ, ◌+◌, ◌<◌, ◌≤◌, Bool,
 use Rattle.std.specs.List.{AllByRecursion}
 use Rattle.precedence.specs.Stamps.{Precedence}
 use Rattle.table.specs.declared.held.Version.{Version}
-use Rattle.table.specs.declared.held.Row.{Row}
-use Rattle.table.specs.declared.held.Row.TheVariants.{Vacant, Held}
 use Rattle.table.specs.declared.scan.Candidate.{Candidate}
 use Rattle.table.specs.Versions.{capacity, ready, finished_in}
-use Rattle.table.specs.Rows.{in_rows}
+use Rattle.table.specs.Rows.{Row, in_rows}
 
 -- a candidate is a row of the table
 abbrev pub in_table : Option Candidate → Type 0
@@ -29,8 +27,8 @@ candidate i v = record { row = i; begin = v.stamp.begin }
 -- the better of `best` and the rows that pass, the first of which is row i
 abbrev pub best_from : (Option Candidate → Candidate → Option Candidate) → (Version → Bool) → ℕ → List Row → Option Candidate → Option Candidate
 best_from better p i [] best = best
-best_from better p i (Vacant ∷ rows) best = best_from better p (i + 1) rows best
-best_from better p i (Held v ∷ rows) best = best_from better p (i + 1) rows (cond (p v) (better best (candidate i v)) best)
+best_from better p i (None ∷ rows) best = best_from better p (i + 1) rows best
+best_from better p i (Some v ∷ rows) best = best_from better p (i + 1) rows (cond (p v) (better best (candidate i v)) best)
 
 -- the ready row of lowest begin mark
 abbrev pub lowest_ready : Precedence → List Row → Option Candidate
@@ -45,5 +43,5 @@ newest_at place rows = best_from higher_of (finished_in place) 0 rows None
 abbrev pub Lowest : (Version → Bool) → List Row → Option Candidate → Type 0
 Lowest p rows None = AllByRecursion (λ v. p v ≡ false) (in_rows rows)
 Lowest p rows (Some n) =
-    (v : Version) × (slice_index_or rows n.row Vacant ≡ Held v) × (n.begin ≡ v.stamp.begin) × (p v ≡ true)
+    (v : Version) × (slice_index_or rows n.row None ≡ Some v) × (n.begin ≡ v.stamp.begin) × (p v ≡ true)
     × AllByRecursion (λ u. p u ≡ true → v.stamp.begin ≤ u.stamp.begin) (in_rows rows)

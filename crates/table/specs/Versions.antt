@@ -1,5 +1,6 @@
 -- The versions that a table holds, and what becomes of them.
-use Rattle.std.specs.Prelude.{ℕ, Bool, true, false, cond, not, ◌&&◌, ◌||◌, List, [], ◌∷◌, length, filter, ◌==◌, nat_lt}
+use Rattle.std.specs.Prelude.{ℕ, Bool, true, false, cond, not, ◌&&◌, List, length, filter, ◌==◌, nat_lt}
+use Rattle.std.specs.List.{list_any}
 use Rattle.precedence.specs.Stamps.{Precedence, begun_at, finished_at}
 use Rattle.table.specs.declared.held.State.{State}
 use Rattle.table.specs.declared.held.State.TheVariants.{Open, Waiting, Sent, Home, Withdrawn}
@@ -69,8 +70,7 @@ live Withdrawn = false
 
 -- does some element pass the test?
 abbrev pub some_pass : {A : Type 0} → (A → Bool) → List A → Bool
-some_pass p [] = false
-some_pass p (x ∷ xs) = p x || some_pass p xs
+some_pass p xs = list_any p xs
 
 abbrev pub count : (State → Bool) → List Version → ℕ
 count p vs = length (filter (λ v. p v.state) vs)

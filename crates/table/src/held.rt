@@ -1,7 +1,7 @@
 // The versions that the table holds, and what is asked of them and done to them.
-ghost use Rattle.std.specs.Prelude.{◌≡◌, false, length};
+ghost use Rattle.std.specs.Prelude.{◌≡◌};
 ghost use Rattle.table.specs.Versions.{begun};
-ghost use Rattle.table.specs.Rows.{test, row_passes, is_vacant, stamp_of, bytes_of, changed};
+ghost use Rattle.table.specs.Rows.{test, changed};
 
 use disk::disk::BLOCK;
 use precedence::Stamp;
@@ -26,55 +26,18 @@ pub struct Version {
 
 impl Version {
     // An open version, just begun.
-    pub fn begin(place: usize, bytes: &[u8], mark: u32) -> Version
-        requires { length bytes.now ≡ 512 }
+    pub fn begin(place: usize, bytes: &[u8; BLOCK], mark: u32) -> Version
         ensures { result ≡ begun place bytes.now mark }
     {
-        let mut block = [0; BLOCK];
-        block.copy_from_slice(bytes);
         Version {
             stamp: Stamp::begun(place, mark),
-            bytes: block,
+            bytes: *bytes,
             state: State::Open,
         }
     }
 }
 
-#[derive(Clone, Copy)]
-pub enum Row {
-    Vacant,
-    Held(Version),
-}
-
-impl Row {
-    pub(crate) fn is_vacant(&self) -> bool
-        ensures { result ≡ is_vacant self.now }
-    {
-        matches!(self, Row::Vacant)
-    }
-
-    // The stamp of the version, all zero where the row is vacant.
-    pub fn stamp(&self) -> Stamp
-        ensures { result ≡ stamp_of self.now }
-    {
-        match self {
-            Row::Vacant => Stamp::begun(0, 0),
-            Row::Held(v) => v.stamp,
-        }
-    }
-
-    // The bytes of the version, all zero where the row is vacant.
-    pub fn bytes(&self) -> [u8; BLOCK]
-        ensures { result ≡ bytes_of self.now }
-    {
-        match self {
-            Row::Vacant => [0; BLOCK],
-            Row::Held(v) => v.bytes,
-        }
-    }
-}
-
-// What a scan of the table looks for.
+// What a scan of the table looks for. An enum and no closure: contracts name the query, and no caller has to show what it answers.
 #[derive(Clone, Copy)]
 pub enum Query {
     // an open write of this place
@@ -93,30 +56,27 @@ pub enum Query {
 }
 
 impl Query {
-    // Whether the row holds what is looked for.
-    pub(crate) fn passes(self, row: &Row) -> bool
-        ensures { result ≡ row_passes (test self) row.now }
+    // Whether the version is looked for.
+    pub(crate) fn passes(self, v: &Version) -> bool
+        ensures { result ≡ test self v.now }
     {
-        match row {
-            Row::Vacant => false,
-            Row::Held(v) => match self {
-                Query::OpenAt(place) => v.state == State::Open && v.stamp.place == place,
-                Query::Ticket(ticket) => v.state == State::Open && v.stamp.begin == ticket,
-                Query::Open => v.state == State::Open,
-                Query::Reserving => v.state == State::Open,
-                Query::Waiting => v.state == State::Waiting,
-                Query::Sent => v.state == State::Sent,
-                Query::Busy => v.state == State::Waiting || v.state == State::Sent,
-                Query::FinishedAt(place) => {
-                    matches!(v.state, State::Waiting | State::Sent | State::Home)
-                        && v.stamp.place == place
-                }
-            },
+        match self {
+            Query::OpenAt(place) => v.state == State::Open && v.stamp.place == place,
+            Query::Ticket(ticket) => v.state == State::Open && v.stamp.begin == ticket,
+            Query::Open => v.state == State::Open,
+            Query::Reserving => v.state == State::Open,
+            Query::Waiting => v.state == State::Waiting,
+            Query::Sent => v.state == State::Sent,
+            Query::Busy => v.state == State::Waiting || v.state == State::Sent,
+            Query::FinishedAt(place) => {
+                matches!(v.state, State::Waiting | State::Sent | State::Home)
+                    && v.stamp.place == place
+            }
         }
     }
 }
 
-// What is done to a row.
+// What is done to a row. An enum and no closure: contracts name the change, and no caller has to show what it leaves.
 #[derive(Clone, Copy)]
 pub enum Change {
     // the open write with this ticket gets this finish mark, and waits
@@ -134,29 +94,12 @@ pub enum Change {
 }
 
 impl Change {
-    // Whether the change may alter the row.
-    pub(crate) fn touches(self, row: &Row) -> bool
-        ensures { result ≡ false → changed self row.now ≡ row.now }
+    // Changes the row where it lies: it holds a block, and most changes leave that alone.
+    pub(crate) fn on(self, row: &mut Option<Version>)
+        ensures { row.new ≡ changed self row.old }
     {
-        match row {
-            Row::Vacant => false,
-            Row::Held(v) => match self {
-                Change::Finish(ticket, _) => v.state == State::Open && v.stamp.begin == ticket,
-                Change::Withdraw(ticket) => v.state == State::Open && v.stamp.begin == ticket,
-                Change::Send => true,
-                Change::BringHome => v.state == State::Sent,
-                Change::WaitAgain => v.state == State::Sent,
-                Change::Leave => matches!(v.state, State::Home | State::Withdrawn),
-            },
-        }
-    }
-
-    // The row after the change.
-    pub(crate) fn on(self, row: Row) -> Row
-        ensures { result ≡ changed self row }
-    {
-        let Row::Held(mut v) = row else {
-            return Row::Vacant;
+        let Some(v) = row else {
+            return;
         };
         match self {
             Change::Finish(ticket, mark) => {
@@ -183,10 +126,9 @@ impl Change {
             }
             Change::Leave => {
                 if matches!(v.state, State::Home | State::Withdrawn) {
-                    return Row::Vacant;
+                    *row = None;
                 }
             }
         }
-        Row::Held(v)
     }
 }

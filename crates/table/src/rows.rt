@@ -1,71 +1,78 @@
 // The table itself.
-ghost use Rattle.std.specs.Prelude.{◌≡◌, ◌+◌, ◌<◌, ◌≤◌, map, length, replicate, filter, slice_set};
+ghost use Rattle.std.specs.Prelude.{◌≡◌, ◌+◌, ◌<◌, ◌≤◌, map, length, replicate, filter, slice_set, slice_index_or};
 ghost use Rattle.table.specs.Versions.{some_pass, reserved, gone_count};
-ghost use Rattle.table.specs.Rows.{in_rows, test, changed, finishes, ending, leaving, mark_sent, Vacancy};
+ghost use Rattle.table.specs.Rows.{in_rows, stamp_of, bytes_of, test, changed, finishes, ending, leaving, mark_sent, Vacancy};
 
-use crate::held::{Change, Query, Row, Version};
+use crate::held::{Change, Query, Version};
+use disk::disk::BLOCK;
+use precedence::Stamp;
 
 pub const ROWS: usize = 32;
 
 #[derive(Clone, Copy)]
 pub struct Table {
-    pub rows: [Row; ROWS],
+    pub rows: [Option<Version>; ROWS],
     ghost full: { length rows ≡ 32 },
 }
 
 impl Table {
     // An empty table.
     pub fn new() -> Table
-        ensures { result.rows ≡ replicate 32 Row.Vacant }
+        ensures { result.rows ≡ replicate 32 None }
     {
-        Table {
-            rows: [Row::Vacant; ROWS],
-        }
+        Table { rows: [None; ROWS] }
     }
 
     // Whether some row holds what is looked for.
     pub fn any(&self, query: Query) -> bool
         ensures { result ≡ some_pass (test query) (in_rows self.now.rows) }
     {
-        for i in 0..ROWS {
-            if query.passes(&self.rows[i]) {
-                return true;
-            }
-        }
-        false
+        self.rows.iter().flatten().any(|v| query.passes(v))
     }
 
     // How many rows hold what is looked for.
     pub fn count(&self, query: Query) -> u32
         ensures { result ≡ length (filter (test query) (in_rows self.now.rows)) }
     {
-        let mut found = 0;
-        for i in 0..ROWS {
-            if query.passes(&self.rows[i]) {
-                found += 1;
-            }
-        }
-        found
+        let found = self.rows.iter().flatten().filter(|v| query.passes(v));
+        found.count() as u32
     }
 
     // The row for one more write, if there is room: the first vacant one.
     pub fn vacant(&self) -> Option<usize>
         ensures { Vacancy self.now.rows result }
     {
-        for i in 0..ROWS {
-            if self.rows[i].is_vacant() {
-                return Some(i);
-            }
+        self.rows.iter().position(Option::is_none)
+    }
+
+    // The stamp of the version in row i, all zero where the row is vacant.
+    pub fn stamp(&self, i: usize) -> Stamp
+        requires { i < 32 }
+        ensures { result ≡ stamp_of (slice_index_or self.now.rows i None) }
+    {
+        match &self.rows[i] {
+            None => Stamp::begun(0, 0),
+            Some(v) => v.stamp,
         }
-        None
+    }
+
+    // The bytes of the version in row i, all zero where the row is vacant.
+    pub fn bytes(&self, i: usize) -> &[u8; BLOCK]
+        requires { i < 32 }
+        ensures { result.now ≡ bytes_of (slice_index_or self.now.rows i None) }
+    {
+        match &self.rows[i] {
+            None => &[0; BLOCK],
+            Some(v) => &v.bytes,
+        }
     }
 
     // Row i holds the version.
     pub fn hold(&mut self, i: usize, version: Version)
         requires { i < 32 }
-        ensures { self.new.rows ≡ slice_set self.old.rows i (Row.Held version) }
+        ensures { self.new.rows ≡ slice_set self.old.rows i (Some version) }
     {
-        self.rows[i] = Row::Held(version);
+        self.rows[i] = Some(version);
     }
 
     // Row i is sent, and no other row changes.
@@ -75,7 +82,7 @@ impl Table {
         ensures marks { reserved (in_rows self.new.rows) ≤ reserved (in_rows self.old.rows) }
         ensures held { length (in_rows self.new.rows) ≤ length (in_rows self.old.rows) }
     {
-        self.rows[i] = Change::Send.on(self.rows[i]);
+        Change::Send.on(&mut self.rows[i]);
     }
 
     // The change, on every row.
@@ -85,11 +92,8 @@ impl Table {
         ensures ends { ending change (in_rows self.old.rows) ≤ gone_count (in_rows self.new.rows) }
         ensures room { length (in_rows self.new.rows) + leaving change (in_rows self.old.rows) ≤ length (in_rows self.old.rows) }
     {
-        for i in 0..ROWS {
-            // a row is 552 bytes, and most are not touched
-            if change.touches(&self.rows[i]) {
-                self.rows[i] = change.on(self.rows[i]);
-            }
+        for row in self.rows.iter_mut() {
+            change.on(row);
         }
     }
 }

@@ -1,12 +1,12 @@
 // The scans for one row: the ready write of lowest begin mark, and the newest finished write of a place.
 ghost use Rattle.std.specs.Prelude.{◌≡◌};
 ghost use Rattle.table.specs.Versions.{ready};
-ghost use Rattle.table.specs.Rows.{in_rows, row_passes};
-ghost use Rattle.table.specs.Scans.{in_table, lower_of, higher_of, lowest_ready, newest_at, Lowest};
+ghost use Rattle.table.specs.Rows.{in_rows};
+ghost use Rattle.table.specs.Scans.{in_table, lowest_ready, newest_at, Lowest};
 
-use crate::held::{Query, Row};
-use crate::rows::{ROWS, Table};
-use precedence::{Precedence, Stamp};
+use crate::held::Query;
+use crate::rows::Table;
+use precedence::Precedence;
 
 // A row and the begin mark of its version.
 #[derive(Clone, Copy)]
@@ -15,74 +15,30 @@ pub struct Candidate {
     pub begin: u32,
 }
 
-// The candidate of lower begin mark.
-fn lower(best: Option<Candidate>, next: Candidate) -> Option<Candidate>
-    ensures { result ≡ lower_of best next }
-{
-    match best {
-        None => Some(next),
-        Some(old) => {
-            if old.begin < next.begin {
-                Some(old)
-            } else {
-                Some(next)
-            }
-        }
-    }
-}
-
-// Whether the row holds a write that precedes the stamp's.
-fn stops<P: Precedence>(row: &Row, order: &P, stamp: &Stamp) -> bool
-    ensures { result ≡ row_passes (λ u. P.before order.now u.stamp stamp.now) row.now }
-{
-    match row {
-        Row::Vacant => false,
-        Row::Held(u) => order.precedes(&u.stamp, stamp),
-    }
-}
-
 // The ready row of lowest begin mark: it waits, and no write in the table precedes it.
 pub fn lowest_ready<P: Precedence>(table: &Table, order: &P) -> Option<Candidate>
     ensures value { result ≡ lowest_ready (P.before order.now) table.now.rows }
     ensures found { Lowest (ready (P.before order.now) (in_rows table.now.rows)) table.now.rows result }
     ensures within { in_table result }
 {
-    let mut best = None;
-    'candidates: for i in 0..ROWS {
-        if !Query::Waiting.passes(&table.rows[i]) {
+    let mut best: Option<Candidate> = None;
+    'candidates: for (row, held) in table.rows.iter().enumerate() {
+        let Some(v) = held else {
+            continue;
+        };
+        let begin = v.stamp.begin;
+        // the scan below is the dear part
+        if !Query::Waiting.passes(v) || best.is_some_and(|old| old.begin < begin) {
             continue;
         }
-        let stamp = table.rows[i].stamp();
-        for k in 0..ROWS {
-            if stops(&table.rows[k], order, &stamp) {
+        for u in table.rows.iter().flatten() {
+            if order.precedes(&u.stamp, &v.stamp) {
                 continue 'candidates;
             }
         }
-        best = lower(
-            best,
-            Candidate {
-                row: i,
-                begin: stamp.begin,
-            },
-        );
+        best = Some(Candidate { row, begin });
     }
     best
-}
-
-// The candidate of higher begin mark.
-fn higher(best: Option<Candidate>, next: Candidate) -> Option<Candidate>
-    ensures { result ≡ higher_of best next }
-{
-    match best {
-        None => Some(next),
-        Some(old) => {
-            if old.begin < next.begin {
-                Some(next)
-            } else {
-                Some(old)
-            }
-        }
-    }
 }
 
 // The row of the place's finished write of highest begin mark.
@@ -90,18 +46,17 @@ pub fn newest_at(table: &Table, place: usize) -> Option<Candidate>
     ensures value { result ≡ newest_at place table.now.rows }
     ensures within { in_table result }
 {
-    let mut best = None;
-    for i in 0..ROWS {
-        if !Query::FinishedAt(place).passes(&table.rows[i]) {
+    let mut best: Option<Candidate> = None;
+    for (row, held) in table.rows.iter().enumerate() {
+        let Some(v) = held else {
             continue;
+        };
+        if Query::FinishedAt(place).passes(v) && best.is_none_or(|old| old.begin < v.stamp.begin) {
+            best = Some(Candidate {
+                row,
+                begin: v.stamp.begin,
+            });
         }
-        best = higher(
-            best,
-            Candidate {
-                row: i,
-                begin: table.rows[i].stamp().begin,
-            },
-        );
     }
     best
 }

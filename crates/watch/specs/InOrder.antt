@@ -1,11 +1,9 @@
 -- The ordered cache's rows, followed by the calls that it accepted and their answers alone.
 use Rattle.std.specs.Prelude.{ℕ, cond, List, replicate, Some, None, Option, ◌==◌, slice_index_or}
 use Rattle.precedence.specs.Stamps.{Precedence}
-use Rattle.table.specs.declared.held.Row.{Row}
-use Rattle.table.specs.declared.held.Row.TheVariants.{Vacant}
 use Rattle.table.specs.declared.scan.Candidate.{Candidate}
 use Rattle.table.specs.Versions.{room, begun, finish_one, withdraw_one, bring_home, wait_again}
-use Rattle.table.specs.Rows.{in_rows, no_rows, stamp_of, put, change, leave, mark_sent}
+use Rattle.table.specs.Rows.{Row, in_rows, no_rows, stamp_of, put, change, leave, mark_sent}
 use Rattle.table.specs.Scans.{lowest_ready}
 use Rattle.trace.specs.declared.call.TraceCall.{TraceCall}
 use Rattle.trace.specs.declared.call.TraceCall.TheVariants as call
@@ -23,7 +21,7 @@ sent_rows (Some n) rows = mark_sent rows n.row
 
 abbrev pub written_place : Option Candidate → List Row → Deed
 written_place None rows = deed.Unseen
-written_place (Some n) rows = deed.Place (stamp_of (slice_index_or rows n.row Vacant)).place
+written_place (Some n) rows = deed.Place (stamp_of (slice_index_or rows n.row None)).place
 
 -- the rows after a step, by its answer: 1 written, 2 flushed, else nothing was done
 abbrev pub stepped_rows : Precedence → ℕ → List Row → List Row

@@ -67,9 +67,9 @@ impl<P: Precedence> OrderedWatch<P> {
         let Some(ready) = lowest_ready(&self.table, &self.order) else {
             return Deed::Unseen;
         };
-        let row = self.table.rows[ready.row];
+        let stamp = self.table.stamp(ready.row);
         self.table.mark_sent(ready.row);
-        Deed::Place(row.stamp().place)
+        Deed::Place(stamp.place)
     }
 
     // The step's answer says that it wrote, flushed or did nothing.

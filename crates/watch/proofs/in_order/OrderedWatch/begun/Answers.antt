@@ -1,6 +1,5 @@
-use Rattle.std.proofs.Common.{Bool, cond, set, replicate, sym, refl, ap, ◌∙◌}
+use Rattle.std.proofs.Common.{Bool, cond, set, replicate, sym, refl, ap, ◌∙◌, Some}
 use Rattle.table.specs.declared.held.Version.{Version}
-use Rattle.table.specs.declared.held.Row.TheVariants.{Held}
 use Rattle.table.specs.Versions.{begun}
 use Rattle.table.specs.Rows.{put}
 use Rattle.watch.proofs.in_order.OrderedWatch.begun.Goals as goal
@@ -13,7 +12,7 @@ returns-in-Some g c =
     record {
       rows =
           c.hold.ensures
-          ∙ ap (λ (v : Version). set rows c.in-Some.row (Held v)) c.begin.ensures
+          ∙ ap (λ (v : Version). set rows c.in-Some.row (Some v)) c.begin.ensures
           ∙ sym (vacancy.2 version)
           ∙ ap (λ (b : Bool). cond b (put version rows) rows) (sym vacancy.1);
       order = refl;
