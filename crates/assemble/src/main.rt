@@ -3,7 +3,6 @@
 
 use anyhow::anyhow;
 use assembly::assembling::{TEXT_MAX, assemble_bytes};
-use assembly::mistake::AssemblyError;
 use std::io::{Read, Write};
 
 // The text, and one byte more where it is too long.
@@ -13,18 +12,6 @@ fn read_text(rt: &HostRuntime) -> anyhow::Result<Vec<u8>> {
     Ok(text)
 }
 
-fn report(rt: &HostRuntime, error: AssemblyError) -> anyhow::Result<()> {
-    match error {
-        AssemblyError::TooLong => eprintln!(rt; "the text has more than {TEXT_MAX} bytes")?,
-        AssemblyError::Line { line, mistake } => {
-            let message = mistake.message();
-            eprintln!(rt; "line {line}: {message}")?;
-        }
-        AssemblyError::NoMemory => eprintln!(rt; "there is no memory for the trace")?,
-    }
-    Err(anyhow!("the text gives no trace"))
-}
-
 fn main(rt: HostRuntime) -> anyhow::Result<()> {
     let text = read_text(&rt)?;
     match assemble_bytes(rt.alloc(), &text) {
@@ -32,6 +19,9 @@ fn main(rt: HostRuntime) -> anyhow::Result<()> {
             rt.stdout().write_all(&bytes)?;
             Ok(())
         }
-        Err(error) => report(&rt, error),
+        Err(error) => {
+            eprintln!(rt; "{error}")?;
+            Err(anyhow!("the text gives no trace"))
+        }
     }
 }

@@ -1,6 +1,6 @@
 -- The text of a trace is assembled to it.
 use Rattle.std.proofs.Common.{◌≡◌, ℕ, zero, suc, ◌+◌, ◌-◌, ◌*◌, ◌/◌, ◌%◌, ◌<◌, ◌≤◌, Bool, true, false, cond, not, ◌&&◌, ◌||◌, eqb, ltb, leb, ◌⊎◌, List, [], ◌∷◌, ◌++◌, map, length, take, Some, None, Ok, Err, codes, Option, Result, sym, refl, ap, ◌∙◌, inl, inr, arith}
-use Rattle.std.specs.List.{flat_map}
+use Rattle.std.specs.List.{flat_map, onto_first}
 use Rattle.std.proofs.lemmas.List.{append_assoc, append-nil, length-append, take_all}
 use Rattle.std.proofs.lemmas.Bool.{and_parts, and_from, not-true, not_from_false, or_from, cases_Bool, ltb-true, leb-true, lt-ltb, le-leb, ne_eqb, cond-true}
 use Rattle.trace.specs.declared.call.Mode.{Mode}
@@ -16,9 +16,7 @@ use Rattle.trace.specs.Traces.{trace_of}
 use Rattle.assembly.specs.declared.mistake.Mistake.TheVariants.{Arguments, PlanFull, CallsFull}
 use Rattle.assembly.specs.declared.mistake.AssemblyError.{AssemblyError}
 use Rattle.assembly.specs.declared.mistake.AssemblyError.TheVariants as assembly_error
-use Rattle.assembly.specs.declared.words.Class.{Class}
-use Rattle.assembly.specs.declared.words.Class.TheVariants.{LineEnd, Comment, Blank}
-use Rattle.assembly.specs.Words.{is_blank, holds, first_at, onto, pieces, filled, lines, words}
+use Rattle.assembly.specs.Words.{is_blank, is_line_end, is_comment, first_at, pieces, filled, lines, words}
 use Rattle.assembly.specs.Numbers.{with_digit, with_digits, number_of, byte_of}
 use Rattle.assembly.specs.Keywords.{entry_of}
 use Rattle.assembly.specs.Arguments.{byte_in, number_in, begin_in}
@@ -28,42 +26,42 @@ use Rattle.assembly.specs.Assembled.{at_line, from_line, assembled, Assembles}
 use Rattle.assembly.specs.Told.{digits, decimal, mode_line, retry_line, entry_name, plan_line, call_line, line_by_line, text_of, fits, all_fit, WellFormed, Gives, ReadsBack}
 use Rattle.assembly.proofs.Digits.{number_some}
 
--- no byte of a class
-abbrev free : Class → List ℕ → Bool
-free class [] = true
-free class (b ∷ bs) = not (holds class b) && free class bs
+-- no byte that passes a test
+abbrev free : (ℕ → Bool) → List ℕ → Bool
+free test [] = true
+free test (b ∷ bs) = not (test b) && free test bs
 
-free_parts : (class : Class) (b : ℕ) (bs : List ℕ) → free class (b ∷ bs) ≡ true → (holds class b ≡ false) × (free class bs ≡ true)
-free_parts class b bs p = let h = and_parts (not (holds class b)) (free class bs) p in (not-true (holds class b) h.0, h.1)
+free_parts : (test : ℕ → Bool) (b : ℕ) (bs : List ℕ) → free test (b ∷ bs) ≡ true → (test b ≡ false) × (free test bs ≡ true)
+free_parts test b bs p = let h = and_parts (not (test b)) (free test bs) p in (not-true (test b) h.0, h.1)
 
 -- a part up to its end, and a last part
-piece_front : (class : Class) (xs : List ℕ) (b : ℕ) (rest : List ℕ) → free class xs ≡ true → holds class b ≡ true → pieces class (xs ++ b ∷ rest) ≡ xs ∷ pieces class rest
-piece_front class [] b rest p q = ap (λ t. cond t ([] ∷ pieces class rest) (onto b (pieces class rest))) q
-piece_front class (x ∷ xs) b rest p q =
-    let h = free_parts class x xs p in
-    ap (λ t. cond t ([] ∷ pieces class (xs ++ b ∷ rest)) (onto x (pieces class (xs ++ b ∷ rest)))) h.0
-    ∙ ap (onto x) (piece_front class xs b rest h.1 q)
+piece_front : (test : ℕ → Bool) (xs : List ℕ) (b : ℕ) (rest : List ℕ) → free test xs ≡ true → test b ≡ true → pieces test (xs ++ b ∷ rest) ≡ xs ∷ pieces test rest
+piece_front test [] b rest p q = ap (λ t. cond t ([] ∷ pieces test rest) (onto_first b (pieces test rest))) q
+piece_front test (x ∷ xs) b rest p q =
+    let h = free_parts test x xs p in
+    ap (λ t. cond t ([] ∷ pieces test (xs ++ b ∷ rest)) (onto_first x (pieces test (xs ++ b ∷ rest)))) h.0
+    ∙ ap (onto_first x) (piece_front test xs b rest h.1 q)
 
-piece_last : (class : Class) (x : ℕ) (xs : List ℕ) → free class (x ∷ xs) ≡ true → pieces class (x ∷ xs) ≡ (x ∷ xs) ∷ []
-piece_last class x [] p = ap (λ t. cond t ([] ∷ []) ((x ∷ []) ∷ [])) (free_parts class x [] p).0
-piece_last class x (y ∷ ys) p =
-    let h = free_parts class x (y ∷ ys) p in
-    ap (λ t. cond t ([] ∷ pieces class (y ∷ ys)) (onto x (pieces class (y ∷ ys)))) h.0
-    ∙ ap (onto x) (piece_last class y ys h.1)
+piece_last : (test : ℕ → Bool) (x : ℕ) (xs : List ℕ) → free test (x ∷ xs) ≡ true → pieces test (x ∷ xs) ≡ (x ∷ xs) ∷ []
+piece_last test x [] p = ap (λ t. cond t ([] ∷ []) ((x ∷ []) ∷ [])) (free_parts test x [] p).0
+piece_last test x (y ∷ ys) p =
+    let h = free_parts test x (y ∷ ys) p in
+    ap (λ t. cond t ([] ∷ pieces test (y ∷ ys)) (onto_first x (pieces test (y ∷ ys)))) h.0
+    ∙ ap (onto_first x) (piece_last test y ys h.1)
 
-words_front : (w rest : List ℕ) → 0 < length w → free Blank w ≡ true → words (w ++ 32 ∷ rest) ≡ w ∷ words rest
+words_front : (w rest : List ℕ) → 0 < length w → free is_blank w ≡ true → words (w ++ 32 ∷ rest) ≡ w ∷ words rest
 words_front [] rest l p = absurd (omega arith)
-words_front (b ∷ bs) rest l p = ap filled (piece_front Blank (b ∷ bs) 32 rest p refl)
+words_front (b ∷ bs) rest l p = ap filled (piece_front is_blank (b ∷ bs) 32 rest p refl)
 
-words_last : (w : List ℕ) → 0 < length w → free Blank w ≡ true → words w ≡ w ∷ []
+words_last : (w : List ℕ) → 0 < length w → free is_blank w ≡ true → words w ≡ w ∷ []
 words_last [] l p = absurd (omega arith)
-words_last (b ∷ bs) l p = ap filled (piece_last Blank b bs p)
+words_last (b ∷ bs) l p = ap filled (piece_last is_blank b bs p)
 
-first_free : (class : Class) (bs : List ℕ) → free class bs ≡ true → first_at class bs ≡ length bs
-first_free class [] p = refl
-first_free class (b ∷ bs) p =
-    let h = free_parts class b bs p in
-    ap (λ t. cond t 0 (suc (first_at class bs))) h.0 ∙ ap suc (first_free class bs h.1)
+first_free : (test : ℕ → Bool) (bs : List ℕ) → free test bs ≡ true → first_at test bs ≡ length bs
+first_free test [] p = refl
+first_free test (b ∷ bs) p =
+    let h = free_parts test b bs p in
+    ap (λ t. cond t 0 (suc (first_at test bs))) h.0 ∙ ap suc (first_free test bs h.1)
 
 -- a byte that ends no line and begins no comment
 abbrev plain : List ℕ → Bool
@@ -76,16 +74,16 @@ plain_append (x ∷ xs) ys p q =
     let h = and_parts (not (eqb x 10) && not (eqb x 35)) (plain xs) p in
     and_from (not (eqb x 10) && not (eqb x 35)) (plain (xs ++ ys)) h.0 (plain_append xs ys h.1 q)
 
-plain_free : (bs : List ℕ) → plain bs ≡ true → (free LineEnd bs ≡ true) × (free Comment bs ≡ true)
+plain_free : (bs : List ℕ) → plain bs ≡ true → (free is_line_end bs ≡ true) × (free is_comment bs ≡ true)
 plain_free [] p = (refl, refl)
 plain_free (b ∷ bs) p =
     let h = and_parts (not (eqb b 10) && not (eqb b 35)) (plain bs) p in
     let k = and_parts (not (eqb b 10)) (not (eqb b 35)) h.0 in
     let r = plain_free bs h.1 in
-    (and_from (not (eqb b 10)) (free LineEnd bs) k.0 r.0, and_from (not (eqb b 35)) (free Comment bs) k.1 r.1)
+    (and_from (not (eqb b 10)) (free is_line_end bs) k.0 r.0, and_from (not (eqb b 35)) (free is_comment bs) k.1 r.1)
 
 uncommented_plain : (line : List ℕ) → plain line ≡ true → uncommented line ≡ line
-uncommented_plain line p = ap (λ n. take n line) (first_free Comment line (plain_free line p).1) ∙ take_all (length line) line (omega arith)
+uncommented_plain line p = ap (λ n. take n line) (first_free is_comment line (plain_free line p).1) ∙ take_all (length line) line (omega arith)
 
 abbrev all_plain : List (List ℕ) → Bool
 all_plain [] = true
@@ -96,7 +94,7 @@ lines_back [] p = refl
 lines_back (l ∷ ls) p =
     let h = and_parts (plain l) (all_plain ls) p in
     ap lines (append_assoc l (10 ∷ []) (line_by_line ls))
-    ∙ piece_front LineEnd l 10 (line_by_line ls) (plain_free l h.0).0 refl
+    ∙ piece_front is_line_end l 10 (line_by_line ls) (plain_free l h.0).0 refl
     ∙ ap (λ xs. l ∷ xs) (lines_back ls h.1)
 
 -- numbers
@@ -137,16 +135,16 @@ digits_plain = digits_each plain refl (λ d l. one d l) plain_append
     one d l = and_from (not (eqb (48 + d) 10) && not (eqb (48 + d) 35)) true
         (and_from (not (eqb (48 + d) 10)) (not (eqb (48 + d) 35)) (not_from_false (eqb (48 + d) 10) (digit_not d 10 l (omega arith))) (not_from_false (eqb (48 + d) 35) (digit_not d 35 l (omega arith)))) refl
 
-free_append : (class : Class) (xs ys : List ℕ) → free class xs ≡ true → free class ys ≡ true → free class (xs ++ ys) ≡ true
-free_append class [] ys p q = q
-free_append class (x ∷ xs) ys p q =
-    let h = and_parts (not (holds class x)) (free class xs) p in
-    and_from (not (holds class x)) (free class (xs ++ ys)) h.0 (free_append class xs ys h.1 q)
+free_append : (test : ℕ → Bool) (xs ys : List ℕ) → free test xs ≡ true → free test ys ≡ true → free test (xs ++ ys) ≡ true
+free_append test [] ys p q = q
+free_append test (x ∷ xs) ys p q =
+    let h = and_parts (not (test x)) (free test xs) p in
+    and_from (not (test x)) (free test (xs ++ ys)) h.0 (free_append test xs ys h.1 q)
 
-digits_dark : (k n : ℕ) → free Blank (digits k n) ≡ true
-digits_dark = digits_each (free Blank) refl (λ d l. one d l) (free_append Blank)
+digits_dark : (k n : ℕ) → free is_blank (digits k n) ≡ true
+digits_dark = digits_each (free is_blank) refl (λ d l. one d l) (free_append is_blank)
   where
-    one : (d : ℕ) → d < 10 → free Blank ((48 + d) ∷ []) ≡ true
+    one : (d : ℕ) → d < 10 → free is_blank ((48 + d) ∷ []) ≡ true
     one d l = and_from (not (is_blank (48 + d))) true
         (not_from_false (is_blank (48 + d))
         (or_from (eqb (48 + d) 32) (eqb (48 + d) 9 || eqb (48 + d) 13) (digit_not d 32 l (omega arith))
@@ -271,14 +269,14 @@ calls_told n (c ∷ cs) t f l =
     ∙ ap (λ xs. Ok (record { mode = t.mode; retry = t.retry; plan = t.plan; calls = xs })) (append_assoc t.calls (c ∷ []) cs)
 
 -- the plan's line says the plan
-entry_words : (b : ℕ) → (0 < length (entry_name b)) × (free Blank (entry_name b) ≡ true) × (plain (entry_name b) ≡ true)
+entry_words : (b : ℕ) → (0 < length (entry_name b)) × (free is_blank (entry_name b) ≡ true) × (plain (entry_name b) ≡ true)
 entry_words b = go (eqb b 0)
   where
-    go : (t : Bool) → (0 < length (cond t (codes "good") (codes "bad"))) × (free Blank (cond t (codes "good") (codes "bad")) ≡ true) × (plain (cond t (codes "good") (codes "bad")) ≡ true)
+    go : (t : Bool) → (0 < length (cond t (codes "good") (codes "bad"))) × (free is_blank (cond t (codes "good") (codes "bad")) ≡ true) × (plain (cond t (codes "good") (codes "bad")) ≡ true)
     go true = (omega arith, refl, refl)
     go false = (omega arith, refl, refl)
 
-plan_words : (w : List ℕ) (plan : List ℕ) → 0 < length w → free Blank w ≡ true → words (w ++ flat_map (λ b. 32 ∷ entry_name b) plan) ≡ w ∷ map entry_name plan
+plan_words : (w : List ℕ) (plan : List ℕ) → 0 < length w → free is_blank w ≡ true → words (w ++ flat_map (λ b. 32 ∷ entry_name b) plan) ≡ w ∷ map entry_name plan
 plan_words w [] l p = ap words (append-nil w) ∙ words_last w l p
 plan_words w (b ∷ bs) l p =
     let e = entry_words b in

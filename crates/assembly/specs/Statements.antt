@@ -2,6 +2,8 @@
 use Rattle.std.specs.Prelude.{◌≡◌, ℕ, Bool, cond, List, [], ◌∷◌, length, take, Some, None, Ok, Err, Option, Result, nat_lt}
 use Rattle.trace.specs.declared.call.Mode.{Mode}
 use Rattle.trace.specs.declared.call.TraceCall.{TraceCall}
+use Rattle.trace.specs.declared.building.GrowError.{GrowError}
+use Rattle.trace.specs.declared.building.GrowError.TheVariants.{Full, NoMemory}
 use Rattle.trace.specs.Building.{with_entry, with_call}
 use Rattle.trace.specs.Format.{Trace}
 use Rattle.assembly.specs.declared.keywords.Keyword.{Keyword}
@@ -10,8 +12,7 @@ use Rattle.assembly.specs.declared.mistake.Mistake.{Mistake}
 use Rattle.assembly.specs.declared.mistake.Mistake.TheVariants.{UnknownWord, Arguments, PlanFull, CallsFull}
 use Rattle.assembly.specs.declared.mistake.LineError.{LineError}
 use Rattle.assembly.specs.declared.mistake.LineError.TheVariants as line_error
-use Rattle.assembly.specs.declared.words.Class.TheVariants.{Comment}
-use Rattle.assembly.specs.Words.{first_at}
+use Rattle.assembly.specs.Words.{is_comment, first_at}
 use Rattle.assembly.specs.Keywords.{entry_of, keyword_of}
 use Rattle.assembly.specs.Arguments.{mode_in, retry_in, call_in}
 
@@ -24,6 +25,15 @@ with_mode mode t = record { mode = mode; retry = t.retry; plan = t.plan; calls =
 
 abbrev pub with_retry : Bool → Trace → Trace
 with_retry retry t = record { mode = t.mode; retry = retry; plan = t.plan; calls = t.calls }
+
+-- a mistake as a line's error
+abbrev pub mistaken : Mistake → LineError
+mistaken mistake = line_error.Mistake mistake
+
+-- why a call of the trace's refused, with the mistake where the trace is full
+abbrev pub refusal_of : GrowError → Mistake → LineError
+refusal_of Full mistake = line_error.Mistake mistake
+refusal_of NoMemory mistake = line_error.NoMemory
 
 -- entries go to the end of the plan
 abbrev pub entered : List (List ℕ) → Trace → Result Trace Mistake
@@ -50,7 +60,7 @@ stated (w ∷ ws) t = or_mistake (keyword_of w) UnknownWord (λ keyword. obeyed 
 
 -- a line up to its comment
 abbrev pub uncommented : List ℕ → List ℕ
-uncommented line = take (first_at Comment line) line
+uncommented line = take (first_at is_comment line) line
 
 -- the trace came to what is expected, or the mistake is the expected one; of want of memory nothing is said
 abbrev pub Comes : Result Trace Mistake → Result (Unit {0}) LineError → Trace → Type 0

@@ -1,32 +1,30 @@
 -- Lines and words of a text.
 use Rattle.std.specs.Prelude.{ℕ, suc, Bool, cond, not, ◌||◌, List, [], ◌∷◌, Some, None, Option, ◌==◌}
 use Rattle.std.specs.Borrow.{Bor}
-use Rattle.assembly.specs.declared.words.Class.{Class}
-use Rattle.assembly.specs.declared.words.Class.TheVariants.{LineEnd, Comment, Blank, Dark}
+use Rattle.std.specs.List.{onto_first}
 
 -- words stand between spaces, tabs and carriage returns
 abbrev pub is_blank : ℕ → Bool
 is_blank b = b == 32 || (b == 9 || b == 13)
 
-abbrev pub holds : Class → ℕ → Bool
-holds LineEnd b = b == 10
-holds Comment b = b == 35
-holds Blank b = is_blank b
-holds Dark b = not (is_blank b)
+abbrev pub is_dark : ℕ → Bool
+is_dark b = not (is_blank b)
 
--- the index of the first byte of a class, or the length
-abbrev pub first_at : Class → List ℕ → ℕ
-first_at class [] = 0
-first_at class (b ∷ bs) = cond (holds class b) 0 (suc (first_at class bs))
+abbrev pub is_line_end : ℕ → Bool
+is_line_end b = b == 10
 
-abbrev pub onto : ℕ → List (List ℕ) → List (List ℕ)
-onto b [] = (b ∷ []) ∷ []
-onto b (p ∷ ps) = (b ∷ p) ∷ ps
+abbrev pub is_comment : ℕ → Bool
+is_comment b = b == 35
 
--- the parts that end at each byte of a class, the last one at the end
-abbrev pub pieces : Class → List ℕ → List (List ℕ)
-pieces class [] = []
-pieces class (b ∷ bs) = cond (holds class b) ([] ∷ pieces class bs) (onto b (pieces class bs))
+-- the index of the first byte that passes a test, or the length
+abbrev pub first_at : (ℕ → Bool) → List ℕ → ℕ
+first_at test [] = 0
+first_at test (b ∷ bs) = cond (test b) 0 (suc (first_at test bs))
+
+-- the parts that end at each byte that passes a test, the last one at the end
+abbrev pub pieces : (ℕ → Bool) → List ℕ → List (List ℕ)
+pieces test [] = []
+pieces test (b ∷ bs) = cond (test b) ([] ∷ pieces test bs) (onto_first b (pieces test bs))
 
 abbrev pub filled : List (List ℕ) → List (List ℕ)
 filled [] = []
@@ -34,10 +32,10 @@ filled ([] ∷ ps) = filled ps
 filled ((b ∷ bs) ∷ ps) = (b ∷ bs) ∷ filled ps
 
 abbrev pub lines : List ℕ → List (List ℕ)
-lines text = pieces LineEnd text
+lines text = pieces is_line_end text
 
 abbrev pub words : List ℕ → List (List ℕ)
-words line = filled (pieces Blank line)
+words line = filled (pieces is_blank line)
 
 -- a first word and those behind it
 abbrev pub listed : Option (List ℕ × List ℕ) → List (List ℕ)

@@ -5,7 +5,7 @@ ghost use Rattle.assembly.specs.Arguments.{number_in, byte_in, mode_in, retry_in
 
 use crate::keywords::{CallWord, mode_named};
 use crate::numbers::{byte, number};
-use crate::words::{first_word, only_word, same};
+use crate::words::{first_word, only_word};
 use trace::call::{Mode, TraceCall, flag_from_byte};
 
 // The only word, as a number.
@@ -41,9 +41,9 @@ fn begun(bytes: &[u8]) -> Option<TraceCall>
 {
     let (place, rest) = first_word(bytes)?;
     let (name, rest) = first_word(rest)?;
-    if !same(name, b"fill") {
+    let b"fill" = name else {
         return None;
-    }
+    };
     let place = number(place)?;
     let fill = only_byte(rest)?;
     Some(TraceCall::Begin { place, fill })
@@ -53,10 +53,7 @@ fn begun(bytes: &[u8]) -> Option<TraceCall>
 fn alone(bytes: &[u8], call: TraceCall) -> Option<TraceCall>
     ensures { result ≡ alone_in call (words bytes.now) }
 {
-    match first_word(bytes) {
-        None => Some(call),
-        Some(_) => None,
-    }
+    first_word(bytes).is_none().then_some(call)
 }
 
 // The call of a line's first word and what follows it.
@@ -65,27 +62,12 @@ pub(crate) fn call_with(word: CallWord, bytes: &[u8]) -> Option<TraceCall>
 {
     match word {
         CallWord::Begin => begun(bytes),
-        CallWord::Finish => {
-            let ticket = only_number(bytes)?;
-            Some(TraceCall::Finish { ticket })
-        }
-        CallWord::Withdraw => {
-            let ticket = only_number(bytes)?;
-            Some(TraceCall::Withdraw { ticket })
-        }
-        CallWord::Read => {
-            let place = only_number(bytes)?;
-            Some(TraceCall::Read { place })
-        }
+        CallWord::Finish => only_number(bytes).map(|ticket| TraceCall::Finish { ticket }),
+        CallWord::Withdraw => only_number(bytes).map(|ticket| TraceCall::Withdraw { ticket }),
+        CallWord::Read => only_number(bytes).map(|place| TraceCall::Read { place }),
         CallWord::Step => alone(bytes, TraceCall::Step),
         CallWord::Seal => alone(bytes, TraceCall::Seal),
-        CallWord::Restart => {
-            let choice = only_byte(bytes)?;
-            Some(TraceCall::Restart { choice })
-        }
-        CallWord::Cut => {
-            let choice = only_byte(bytes)?;
-            Some(TraceCall::Cut { choice })
-        }
+        CallWord::Restart => only_byte(bytes).map(|choice| TraceCall::Restart { choice }),
+        CallWord::Cut => only_byte(bytes).map(|choice| TraceCall::Cut { choice }),
     }
 }

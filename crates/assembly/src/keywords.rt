@@ -2,7 +2,6 @@
 ghost use Rattle.std.specs.Prelude.{◌≡◌};
 ghost use Rattle.assembly.specs.Keywords.{mode_of, entry_of, call_word_of, keyword_of};
 
-use crate::words::same;
 use trace::call::Mode;
 
 // The first word of a line that is a call.
@@ -30,14 +29,11 @@ pub(crate) enum Keyword {
 pub(crate) fn mode_named(word: &[u8]) -> Option<Mode>
     ensures { result ≡ mode_of word.now }
 {
-    if same(word, b"overlap") {
-        Some(Mode::Overlap)
-    } else if same(word, b"line") {
-        Some(Mode::Line)
-    } else if same(word, b"journaled") {
-        Some(Mode::Journaled)
-    } else {
-        None
+    match word {
+        b"overlap" => Some(Mode::Overlap),
+        b"line" => Some(Mode::Line),
+        b"journaled" => Some(Mode::Journaled),
+        _ => None,
     }
 }
 
@@ -45,57 +41,36 @@ pub(crate) fn mode_named(word: &[u8]) -> Option<Mode>
 pub(crate) fn entry_named(word: &[u8]) -> Option<bool>
     ensures { result ≡ entry_of word.now }
 {
-    if same(word, b"good") {
-        Some(false)
-    } else if same(word, b"bad") {
-        Some(true)
-    } else {
-        None
+    match word {
+        b"good" => Some(false),
+        b"bad" => Some(true),
+        _ => None,
     }
 }
 
 fn call_named(word: &[u8]) -> Option<CallWord>
     ensures { result ≡ call_word_of word.now }
 {
-    if same(word, b"begin") {
-        return Some(CallWord::Begin);
+    match word {
+        b"begin" => Some(CallWord::Begin),
+        b"finish" => Some(CallWord::Finish),
+        b"withdraw" => Some(CallWord::Withdraw),
+        b"read" => Some(CallWord::Read),
+        b"step" => Some(CallWord::Step),
+        b"seal" => Some(CallWord::Seal),
+        b"restart" => Some(CallWord::Restart),
+        b"cut" => Some(CallWord::Cut),
+        _ => None,
     }
-    if same(word, b"finish") {
-        return Some(CallWord::Finish);
-    }
-    if same(word, b"withdraw") {
-        return Some(CallWord::Withdraw);
-    }
-    if same(word, b"read") {
-        return Some(CallWord::Read);
-    }
-    if same(word, b"step") {
-        return Some(CallWord::Step);
-    }
-    if same(word, b"seal") {
-        return Some(CallWord::Seal);
-    }
-    if same(word, b"restart") {
-        return Some(CallWord::Restart);
-    }
-    if same(word, b"cut") {
-        return Some(CallWord::Cut);
-    }
-    None
 }
 
 pub(crate) fn keyword_named(word: &[u8]) -> Option<Keyword>
     ensures { result ≡ keyword_of word.now }
 {
-    if same(word, b"mode") {
-        return Some(Keyword::Mode);
+    match word {
+        b"mode" => Some(Keyword::Mode),
+        b"retry" => Some(Keyword::Retry),
+        b"plan" => Some(Keyword::Plan),
+        _ => call_named(word).map(Keyword::Call),
     }
-    if same(word, b"retry") {
-        return Some(Keyword::Retry);
-    }
-    if same(word, b"plan") {
-        return Some(Keyword::Plan);
-    }
-    let call = call_named(word)?;
-    Some(Keyword::Call(call))
 }

@@ -1,5 +1,12 @@
-ghost use Rattle.std.specs.Prelude.{◌≡◌};
-ghost use Rattle.assembly.specs.Messages.{message_of};
+ghost use Rattle.std.specs.Prelude.{◌≡◌, Some};
+ghost use Rattle.assembly.specs.Messages.{message_of, error_text};
+ghost use Rattle.assembly.specs.Statements.{mistaken};
+ghost use Rattle.assembly.specs.Assembled.{located_at, no_memory};
+
+use crate::assembling::TEXT_MAX;
+use std::alloc::AllocError;
+use std::error::Error;
+use std::fmt;
 
 // What a line of a text can do wrong.
 #[derive(Clone, Copy, PartialEq, Eq, Debug)]
@@ -28,11 +35,39 @@ impl Mistake {
     }
 }
 
+impl fmt::Display for Mistake {
+    ghost output = { λ mistake. Some (message_of mistake) };
+
+    fn fmt<W: fmt::Write>(&self, f: &mut fmt::Formatter<W>) -> fmt::Result {
+        f.write_str(self.message())
+    }
+}
+
 // Why a line was not taken.
 #[derive(Clone, Copy)]
 pub(crate) enum LineError {
     Mistake(Mistake),
     NoMemory,
+}
+
+impl LineError {
+    // The error with the line's number.
+    pub(crate) fn at(self, line: usize) -> AssemblyError
+        ensures { result ≡ located_at line self }
+    {
+        match self {
+            LineError::Mistake(mistake) => AssemblyError::Line { line, mistake },
+            LineError::NoMemory => AssemblyError::NoMemory,
+        }
+    }
+}
+
+impl From<Mistake> for LineError {
+    ghost from_gives = { λ mistake error. error ≡ mistaken mistake };
+
+    fn from(mistake: Mistake) -> LineError {
+        LineError::Mistake(mistake)
+    }
 }
 
 // Why a text gives no trace.
@@ -43,4 +78,26 @@ pub enum AssemblyError {
     // a line is wrong; the first has number 1
     Line { line: usize, mistake: Mistake },
     NoMemory,
+}
+
+impl fmt::Display for AssemblyError {
+    ghost output = { λ error. Some (error_text error) };
+
+    fn fmt<W: fmt::Write>(&self, f: &mut fmt::Formatter<W>) -> fmt::Result {
+        match self {
+            AssemblyError::TooLong => write!(f, "the text has more than {TEXT_MAX} bytes"),
+            AssemblyError::Line { line, mistake } => write!(f, "line {line}: {mistake}"),
+            AssemblyError::NoMemory => write!(f, "there is no memory for the trace"),
+        }
+    }
+}
+
+impl Error for AssemblyError {}
+
+impl From<AllocError> for AssemblyError {
+    ghost from_gives = { λ _ error. error ≡ no_memory };
+
+    fn from(_error: AllocError) -> AssemblyError {
+        AssemblyError::NoMemory
+    }
 }

@@ -1,15 +1,25 @@
 // Lines that are taken into a trace.
+ghost use Rattle.std.specs.Prelude.{◌≡◌};
 ghost use Rattle.trace.specs.Traces.{trace_of};
 ghost use Rattle.assembly.specs.Words.{words};
-ghost use Rattle.assembly.specs.Statements.{entered, called, obeyed, stated, uncommented, Comes};
+ghost use Rattle.assembly.specs.Statements.{refusal_of, entered, obeyed, stated, uncommented, Comes};
 
 use crate::arguments::{call_with, mode_in, retry_in};
 use crate::keywords::{Keyword, entry_named, keyword_named};
 use crate::mistake::{LineError, Mistake};
-use crate::words::{Class, first_word, position};
+use crate::words::first_word;
 use trace::building::GrowError;
-use trace::call::TraceCall;
 use trace::trace::Trace;
+
+// Why a call of the trace's refused, with the mistake where the trace is full.
+fn refusal(error: GrowError, full: Mistake) -> LineError
+    ensures { result ≡ refusal_of error full }
+{
+    match error {
+        GrowError::Full => LineError::Mistake(full),
+        GrowError::NoMemory => LineError::NoMemory,
+    }
+}
 
 // Takes the entries into the plan.
 fn enter(trace: &mut Trace, bytes: &[u8]) -> Result<(), LineError>
@@ -17,28 +27,13 @@ fn enter(trace: &mut Trace, bytes: &[u8]) -> Result<(), LineError>
 {
     let mut rest = bytes;
     while let Some((word, tail)) = first_word(rest) {
-        let Some(bad) = entry_named(word) else {
-            return Err(LineError::Mistake(Mistake::Arguments));
-        };
-        match trace.push_entry(bad) {
-            Ok(()) => {}
-            Err(GrowError::Full) => return Err(LineError::Mistake(Mistake::PlanFull)),
-            Err(GrowError::NoMemory) => return Err(LineError::NoMemory),
-        }
+        let bad = entry_named(word).ok_or(Mistake::Arguments)?;
+        trace
+            .push_entry(bad)
+            .map_err(|error| refusal(error, Mistake::PlanFull))?;
         rest = tail;
     }
     Ok(())
-}
-
-// Takes the call into the list.
-fn add(trace: &mut Trace, call: TraceCall) -> Result<(), LineError>
-    ensures { Comes (called call (trace_of trace.old)) result (trace_of trace.new) }
-{
-    match trace.push_call(call) {
-        Ok(()) => Ok(()),
-        Err(GrowError::Full) => Err(LineError::Mistake(Mistake::CallsFull)),
-        Err(GrowError::NoMemory) => Err(LineError::NoMemory),
-    }
 }
 
 // Takes a statement, by its first word and what follows it.
@@ -46,39 +41,37 @@ fn obey(trace: &mut Trace, keyword: Keyword, bytes: &[u8]) -> Result<(), LineErr
     ensures { Comes (obeyed keyword (words bytes.now) (trace_of trace.old)) result (trace_of trace.new) }
 {
     match keyword {
-        Keyword::Mode => {
-            let Some(mode) = mode_in(bytes) else {
-                return Err(LineError::Mistake(Mistake::Arguments));
-            };
-            trace.mode = mode;
-            Ok(())
-        }
-        Keyword::Retry => {
-            let Some(retry) = retry_in(bytes) else {
-                return Err(LineError::Mistake(Mistake::Arguments));
-            };
-            trace.retry = retry;
-            Ok(())
-        }
-        Keyword::Plan => enter(trace, bytes),
+        Keyword::Mode => trace.mode = mode_in(bytes).ok_or(Mistake::Arguments)?,
+        Keyword::Retry => trace.retry = retry_in(bytes).ok_or(Mistake::Arguments)?,
+        Keyword::Plan => enter(trace, bytes)?,
         Keyword::Call(word) => {
-            let Some(call) = call_with(word, bytes) else {
-                return Err(LineError::Mistake(Mistake::Arguments));
-            };
-            add(trace, call)
+            let call = call_with(word, bytes).ok_or(Mistake::Arguments)?;
+            trace
+                .push_call(call)
+                .map_err(|error| refusal(error, Mistake::CallsFull))?;
         }
     }
+    Ok(())
+}
+
+// The line up to its comment.
+fn uncommented(line: &[u8]) -> &[u8]
+    ensures { result.now ≡ uncommented line.now }
+{
+    let end = line
+        .iter()
+        .position(|byte| *byte == b'#')
+        .unwrap_or(line.len());
+    &line[..end]
 }
 
 // Takes a line.
 pub(crate) fn take_line(trace: &mut Trace, line: &[u8]) -> Result<(), LineError>
     ensures { Comes (stated (words (uncommented line.now)) (trace_of trace.old)) result (trace_of trace.new) }
 {
-    let Some((word, rest)) = first_word(&line[0..position(line, Class::Comment)]) else {
+    let Some((word, rest)) = first_word(uncommented(line)) else {
         return Ok(());
     };
-    let Some(keyword) = keyword_named(word) else {
-        return Err(LineError::Mistake(Mistake::UnknownWord));
-    };
+    let keyword = keyword_named(word).ok_or(Mistake::UnknownWord)?;
     obey(trace, keyword, rest)
 }

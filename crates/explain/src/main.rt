@@ -38,8 +38,8 @@ fn explain_mode(rt: &HostRuntime, trace: &Trace) -> anyhow::Result<()> {
 
 fn main(rt: HostRuntime) -> anyhow::Result<()> {
     let mut buffer = [0; ROOM];
-    let length = read_input(&rt, &mut buffer)?;
-    match decode(rt.alloc(), &buffer[..length]) {
+    let input = read_input(&rt, &mut buffer)?;
+    match decode(rt.alloc(), input) {
         Ok(trace) => explain_mode(&rt, &trace),
         Err(DecodeError::Malformed) => {
             println!(rt; "not a trace")?;

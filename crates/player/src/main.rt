@@ -6,8 +6,8 @@ use play::output::output;
 
 fn main(rt: HostRuntime) -> anyhow::Result<()> {
     let mut buffer = [0; ROOM];
-    let length = read_input(&rt, &mut buffer)?;
-    let text = output(rt.alloc(), &buffer[..length])?;
+    let input = read_input(&rt, &mut buffer)?;
+    let text = output(rt.alloc(), input)?;
     rt.print(text)?;
     Ok(())
 }

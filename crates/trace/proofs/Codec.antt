@@ -1,6 +1,6 @@
 -- A trace that is encoded is decoded again, and what is decoded is, but for what is ignored, the encoding.
 use Rattle.std.proofs.Common.{◌≡◌, ℕ, zero, suc, ◌+◌, ◌*◌, ◌/◌, ◌%◌, ◌<◌, ◌≤◌, Bool, true, false, cond, ◌&&◌, eqb, leb, List, [], ◌∷◌, ◌++◌, length, get_or, take, drop, Some, None, Option, sym, refl, ap, ◌∙◌, subst, arith}
-use mir.Val.{bool_byte}
+use Rattle.std.specs.Int.{from_bool, to_le_bytes, w16}
 use Rattle.std.specs.List.{flat_map}
 use Rattle.std.proofs.lemmas.Bool.{le-leb, leb-true, eqb-true, and_from, and_parts, cond-true}
 use Rattle.std.proofs.lemmas.List.{append_assoc, append-nil, length-append, length-take-le, take-append-drop, take_at, drop_at, get_or-append-add, nil_from_length}
@@ -9,8 +9,15 @@ use Rattle.trace.specs.declared.call.Mode.TheVariants.{Overlap, Line, Journaled}
 use Rattle.trace.specs.declared.call.TraceCall.{TraceCall}
 use Rattle.trace.specs.declared.call.TraceCall.TheVariants.{Begin, Finish, Withdraw, Read, Step, Seal, Restart, Cut}
 use Rattle.trace.specs.Calls.{mode_byte, mode_of, flag_byte, flag_of, code_of, number_of, fill_of, two_bytes, call_bytes, call_of}
-use Rattle.trace.proofs.Parsing.{ending, found}
 use Rattle.trace.specs.Format.{Trace, Sections, section, sections, and_then, calls_of, decode, encode, all_entries, canonical, canonical_call, canonical_calls, calls_start}
+
+-- what is left to find once the options and the plan are found
+abbrev ending : Mode → Bool → List ℕ → Option (List ℕ × List ℕ) → Option Sections
+ending m r plan o = and_then o (λ calls. cond (eqb (length calls.1) 0) (Some (record { mode = m; retry = r; plan = plan; calls = calls.0 })) None)
+
+-- all that follows the first count
+abbrev found : Option Mode → Option Bool → Option (List ℕ × List ℕ) → Option Sections
+found om or op = and_then om (λ m. and_then or (λ r. and_then op (λ plan. ending m r plan.0 (section 1000 4 plan.1))))
 
 low_high : (n : ℕ) → n % 256 + 256 * (n / 256) ≡ n
 low_high n = omega arith
@@ -311,17 +318,22 @@ decode_found bs s plan cs e a k p =
     ∙ ap (λ o. and_then o (λ calls. Some (record { mode = s.mode; retry = s.retry; plan = s.plan; calls = calls }))) k
     ∙ ap (λ xs. Some (record { mode = s.mode; retry = s.retry; plan = xs; calls = cs })) (sym p)
 
--- a flag as the code casts it
-flag : (b : Bool) → bool_byte b ≡ flag_byte b
+-- a number of two bytes as the library writes it
+pub two_bytes_of : (n k : ℕ) → n ≡ k → k < 65536 → to_le_bytes w16 n ≡ two_bytes k
+two_bytes_of n k e h =
+    ap (λ m. to_le_bytes w16 m) e ∙ ap (λ high. k % 256 ∷ (high ∷ [])) (let q : k / 256 % 256 ≡ k / 256 = omega arith in q)
+
+-- a flag as the library writes it
+flag : (b : Bool) → from_bool b ≡ flag_byte b
 flag false = refl
 flag true = refl
 
 -- an encoding that is put together from the front
-pub encoded_by : (t : Trace) {m : ℕ} {a b c d e : List ℕ} → m ≡ mode_byte t.mode → a ≡ 2 ∷ (m ∷ (bool_byte t.retry ∷ [])) →
+pub encoded_by : (t : Trace) (layers : ℕ) {m : ℕ} {a b c d e : List ℕ} → m ≡ mode_byte t.mode → layers ≡ from_bool t.retry → a ≡ 2 ∷ (m ∷ (layers ∷ [])) →
     b ≡ a ++ two_bytes (length t.plan) → c ≡ b ++ t.plan → d ≡ c ++ two_bytes (length t.calls) → e ≡ d ++ flat_map call_bytes t.calls → e ≡ encode t
-encoded_by t p q r s u v =
+encoded_by t layers p f q r s u v =
     v
-    ∙ ap (λ xs. xs ++ calls) (u ∙ ap (λ xs. xs ++ n) (s ∙ ap (λ xs. xs ++ t.plan) (r ∙ ap (λ xs. xs ++ k) (q ∙ ap (λ x. 2 ∷ (x ∷ (bool_byte t.retry ∷ []))) p ∙ ap (λ x. 2 ∷ (mode_byte t.mode ∷ (x ∷ []))) (flag t.retry)))))
+    ∙ ap (λ xs. xs ++ calls) (u ∙ ap (λ xs. xs ++ n) (s ∙ ap (λ xs. xs ++ t.plan) (r ∙ ap (λ xs. xs ++ k) (q ∙ ap (λ x. 2 ∷ (x ∷ (layers ∷ []))) p ∙ ap (λ x. 2 ∷ (mode_byte t.mode ∷ (x ∷ []))) (f ∙ flag t.retry)))))
     ∙ append_assoc ((start ++ k) ++ t.plan) n calls
     ∙ append_assoc (start ++ k) t.plan (n ++ calls)
   where

@@ -1,4 +1,2 @@
 pub mod Codec
-pub mod Growing
 pub mod Listing
-pub mod Parsing

@@ -1,5 +1,5 @@
 -- The bytes of a mode, a retry layer and a call, and back.
-use Rattle.std.specs.Prelude.{ℕ, ◌/◌, ◌%◌, Bool, true, false, List, [], ◌∷◌, ◌++◌, get_or, Some, None, Option, slice_index_or}
+use Rattle.std.specs.Prelude.{ℕ, ◌+◌, ◌*◌, ◌/◌, ◌%◌, Bool, true, false, List, [], ◌∷◌, ◌++◌, get_or, Some, None, Option, slice_index, slice_index_or}
 use Rattle.trace.specs.declared.call.Mode.{Mode}
 use Rattle.trace.specs.declared.call.Mode.TheVariants.{Overlap, Line, Journaled}
 use Rattle.trace.specs.declared.call.TraceCall.{TraceCall}
@@ -84,3 +84,7 @@ call_of code number fill = get_or (
     ∷ (Some (Restart fill)
     ∷ (Some (Cut fill)
     ∷ []))))))))) code None
+
+-- the call in four bytes
+abbrev pub call_from : List ℕ → Option TraceCall
+call_from bytes = call_of (slice_index bytes 0) (slice_index bytes 1 + 256 * slice_index bytes 2) (slice_index bytes 3)

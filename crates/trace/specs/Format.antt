@@ -1,6 +1,6 @@
 -- The format of a trace: options, a plan and a list of calls, each section after its count.
-use Rattle.std.specs.Prelude.{ℕ, ◌+◌, ◌*◌, Bool, true, cond, ◌&&◌, ◌||◌, List, [], ◌∷◌, ◌++◌, length, take, drop, Some, None, Option, ◌==◌, nat_le, slice_index}
-use Rattle.std.specs.List.{flat_map}
+use Rattle.std.specs.Prelude.{ℕ, ◌+◌, ◌*◌, Bool, cond, ◌&&◌, ◌||◌, List, [], ◌∷◌, ◌++◌, length, take, drop, Some, None, Option, ◌==◌, nat_le, slice_index}
+use Rattle.std.specs.List.{flat_map, list_all}
 use Rattle.trace.specs.declared.call.Mode.{Mode}
 use Rattle.trace.specs.declared.call.TraceCall.{TraceCall}
 use Rattle.trace.specs.Calls.{mode_byte, mode_of, flag_byte, flag_of, two_bytes, call_bytes, call_of}
@@ -20,8 +20,7 @@ encode t =
     (two_bytes (length t.calls) ++ flat_map call_bytes t.calls))))
 
 abbrev pub all_entries : List ℕ → Bool
-all_entries [] = true
-all_entries (b ∷ bs) = nat_le b 1 && all_entries bs
+all_entries bs = list_all (λ b. nat_le b 1) bs
 
 abbrev pub and_then : {A B : Type 0} → Option A → (A → Option B) → Option B
 and_then None f = None

@@ -8,6 +8,10 @@ use Rattle.trace.specs.Format as format
 abbrev pub trace_of : Trace → format.Trace
 trace_of t = record { mode = t.mode; retry = t.retry; plan = vec_items t.plan; calls = vec_items t.calls }
 
+-- how the decoder reports bytes that are none of the format's
+abbrev pub malformed : DecodeError
+malformed = Malformed
+
 -- how the decoder reports that an allocation failed
 abbrev pub no_memory : DecodeError
 no_memory = NoMemory

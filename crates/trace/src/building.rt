@@ -1,10 +1,10 @@
 ghost use Rattle.std.specs.Prelude.{◌≡◌};
-ghost use Rattle.trace.specs.Building.{bare, with_entry, with_call, Grows, entries_in, calls_in};
+ghost use Rattle.trace.specs.Building.{no_memory, bare, with_entry, with_call, Grows, entries_in, calls_in};
 ghost use Rattle.trace.specs.Traces.{trace_of};
 
 use crate::call::{Mode, TraceCall};
 use crate::trace::{CALLS_MAX, PLAN_MAX, Trace};
-use std::alloc::Global;
+use std::alloc::{AllocFailed, Global};
 
 // Why a trace takes no more. It is left as it was.
 #[derive(Clone, Copy, PartialEq, Eq, Debug)]
@@ -12,6 +12,14 @@ pub enum GrowError {
     // the plan or the list has as many entries as a trace may have
     Full,
     NoMemory,
+}
+
+impl<T: Drop> From<AllocFailed<T>> for GrowError {
+    ghost from_gives = { λ _ e. e ≡ no_memory };
+
+    fn from(_refused: AllocFailed<T>) -> GrowError {
+        GrowError::NoMemory
+    }
 }
 
 impl Trace {
@@ -34,10 +42,8 @@ impl Trace {
         if self.plan.len() >= PLAN_MAX {
             return Err(GrowError::Full);
         }
-        match self.plan.push(bad as u8) {
-            Ok(()) => Ok(()),
-            Err(_) => Err(GrowError::NoMemory),
-        }
+        self.plan.push(bad.into())?;
+        Ok(())
     }
 
     // One more call.
@@ -47,9 +53,7 @@ impl Trace {
         if self.calls.len() >= CALLS_MAX {
             return Err(GrowError::Full);
         }
-        match self.calls.push(call) {
-            Ok(()) => Ok(()),
-            Err(_) => Err(GrowError::NoMemory),
-        }
+        self.calls.push(call)?;
+        Ok(())
     }
 }

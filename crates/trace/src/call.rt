@@ -1,5 +1,8 @@
-ghost use Rattle.std.specs.Prelude.{◌≡◌};
-ghost use Rattle.trace.specs.Calls.{mode_byte, mode_of, flag_of, code_of, call_bytes, call_of, cut_choice};
+ghost use Rattle.std.specs.Prelude.{◌≡◌, ok_or};
+ghost use Rattle.trace.specs.Calls.{mode_byte, mode_of, flag_of, code_of, call_bytes, call_from, cut_choice};
+ghost use Rattle.trace.specs.Traces.{malformed};
+
+use crate::decoding::DecodeError;
 
 // The bytes of an encoded call.
 pub const CALL_BYTES: usize = 4;
@@ -15,25 +18,29 @@ pub enum Mode {
     Journaled,
 }
 
-impl Mode {
-    pub(crate) fn byte(self) -> u8
-        ensures { result ≡ mode_byte self }
-    {
-        match self {
+impl From<Mode> for u8 {
+    ghost from_gives = { λ mode byte. byte ≡ mode_byte mode };
+
+    fn from(mode: Mode) -> u8 {
+        match mode {
             Mode::Overlap => 0,
             Mode::Line => 1,
             Mode::Journaled => 2,
         }
     }
+}
 
-    pub(crate) fn from_byte(byte: u8) -> Option<Mode>
-        ensures { result ≡ mode_of byte }
-    {
+impl TryFrom<u8> for Mode {
+    type Error = DecodeError;
+
+    ghost try_from_gives = { λ byte mode. mode ≡ ok_or (mode_of byte) malformed };
+
+    fn try_from(byte: u8) -> Result<Mode, DecodeError> {
         match byte {
-            0 => Some(Mode::Overlap),
-            1 => Some(Mode::Line),
-            2 => Some(Mode::Journaled),
-            _ => None,
+            0 => Ok(Mode::Overlap),
+            1 => Ok(Mode::Line),
+            2 => Ok(Mode::Journaled),
+            _ => Err(DecodeError::Malformed),
         }
     }
 }
@@ -68,14 +75,14 @@ impl TraceCall {
         ensures { result ≡ code_of self }
     {
         match self {
-            TraceCall::Begin { place: _, fill: _ } => 1,
-            TraceCall::Finish { ticket: _ } => 2,
-            TraceCall::Withdraw { ticket: _ } => 3,
-            TraceCall::Read { place: _ } => 4,
+            TraceCall::Begin { .. } => 1,
+            TraceCall::Finish { .. } => 2,
+            TraceCall::Withdraw { .. } => 3,
+            TraceCall::Read { .. } => 4,
             TraceCall::Step => 5,
             TraceCall::Seal => 6,
-            TraceCall::Restart { choice: _ } => 7,
-            TraceCall::Cut { choice: _ } => 8,
+            TraceCall::Restart { .. } => 7,
+            TraceCall::Cut { .. } => 8,
         }
     }
 
@@ -88,46 +95,47 @@ impl TraceCall {
             _ => None,
         }
     }
+}
 
-    // The call of a code; none where the code is no call's.
-    pub(crate) fn from_parts(code: u8, number: u16, fill: u8) -> Option<TraceCall>
-        ensures { result ≡ call_of code number fill }
-    {
+// The four bytes: code, number (the lower byte first) and fill, those that the call has no use for 0.
+impl From<TraceCall> for [u8; CALL_BYTES] {
+    ghost from_gives = { λ call bytes. bytes ≡ call_bytes call };
+
+    fn from(call: TraceCall) -> [u8; CALL_BYTES] {
+        let (number, fill): (u16, u8) = match call {
+            TraceCall::Begin { place, fill } => (place, fill),
+            TraceCall::Finish { ticket } | TraceCall::Withdraw { ticket } => (ticket, 0),
+            TraceCall::Read { place } => (place, 0),
+            TraceCall::Step | TraceCall::Seal => (0, 0),
+            TraceCall::Restart { choice } | TraceCall::Cut { choice } => (0, choice),
+        };
+        let [low, high] = number.to_le_bytes();
+        [call.code(), low, high, fill]
+    }
+}
+
+// The call in four bytes, unless the code is no call's.
+impl TryFrom<[u8; CALL_BYTES]> for TraceCall {
+    type Error = DecodeError;
+
+    ghost try_from_gives = { λ bytes call. call ≡ ok_or (call_from bytes) malformed };
+
+    fn try_from(bytes: [u8; CALL_BYTES]) -> Result<TraceCall, DecodeError> {
+        let [code, low, high, fill] = bytes;
+        let number = u16::from_le_bytes([low, high]);
         match code {
-            1 => Some(TraceCall::Begin {
+            1 => Ok(TraceCall::Begin {
                 place: number,
                 fill,
             }),
-            2 => Some(TraceCall::Finish { ticket: number }),
-            3 => Some(TraceCall::Withdraw { ticket: number }),
-            4 => Some(TraceCall::Read { place: number }),
-            5 => Some(TraceCall::Step),
-            6 => Some(TraceCall::Seal),
-            7 => Some(TraceCall::Restart { choice: fill }),
-            8 => Some(TraceCall::Cut { choice: fill }),
-            _ => None,
+            2 => Ok(TraceCall::Finish { ticket: number }),
+            3 => Ok(TraceCall::Withdraw { ticket: number }),
+            4 => Ok(TraceCall::Read { place: number }),
+            5 => Ok(TraceCall::Step),
+            6 => Ok(TraceCall::Seal),
+            7 => Ok(TraceCall::Restart { choice: fill }),
+            8 => Ok(TraceCall::Cut { choice: fill }),
+            _ => Err(DecodeError::Malformed),
         }
-    }
-
-    // The four bytes: code, number (the lower byte first) and fill, those that the call has no use for 0.
-    pub(crate) fn bytes(self) -> [u8; CALL_BYTES]
-        ensures { result ≡ call_bytes self }
-    {
-        let (number, fill) = match self {
-            TraceCall::Begin { place, fill } => (place, fill),
-            TraceCall::Finish { ticket } => (ticket, 0),
-            TraceCall::Withdraw { ticket } => (ticket, 0),
-            TraceCall::Read { place } => (place, 0),
-            TraceCall::Step => (0, 0),
-            TraceCall::Seal => (0, 0),
-            TraceCall::Restart { choice } => (0, choice),
-            TraceCall::Cut { choice } => (0, choice),
-        };
-        [
-            self.code(),
-            (number % 256) as u8,
-            (number / 256) as u8,
-            fill,
-        ]
     }
 }

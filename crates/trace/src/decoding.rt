@@ -2,7 +2,7 @@ ghost use Rattle.std.specs.Prelude.{◌≡◌, IfOk, vec_items};
 ghost use Rattle.trace.specs.Format.{decode as decoded, encode as encoded, canonical as canonical_form, calls_of};
 ghost use Rattle.trace.specs.Traces.{trace_of, Finds, no_memory, refusal_number};
 
-use crate::call::TraceCall;
+use crate::call::{CALL_BYTES, TraceCall};
 use crate::sections::{are_entries, split};
 use crate::trace::Trace;
 use std::alloc::{AllocError, AllocFailed, Global};
@@ -36,10 +36,10 @@ impl From<AllocError> for DecodeError {
     }
 }
 
-impl From<AllocFailed<TraceCall>> for DecodeError {
+impl<T: Drop> From<AllocFailed<T>> for DecodeError {
     ghost from_gives = { λ _ e. e ≡ no_memory };
 
-    fn from(_refused: AllocFailed<TraceCall>) -> DecodeError {
+    fn from(_refused: AllocFailed<T>) -> DecodeError {
         DecodeError::NoMemory
     }
 }
@@ -48,21 +48,15 @@ impl From<AllocFailed<TraceCall>> for DecodeError {
 fn calls(heap: Global, bytes: &[u8]) -> Result<Vec<TraceCall>, DecodeError>
     ensures { Finds vec_items (calls_of bytes.now) result }
 {
+    let (coded, rest) = bytes.as_chunks::<CALL_BYTES>();
+    if !rest.is_empty() {
+        return Err(DecodeError::Malformed);
+    }
     let mut calls = Vec::new(heap);
-    let mut rest = bytes;
-    while let [code, low, high, fill, tail @ ..] = rest {
-        let number = *low as u16 + 256 * *high as u16;
-        let Some(call) = TraceCall::from_parts(*code, number, *fill) else {
-            return Err(DecodeError::Malformed);
-        };
-        calls.push(call)?;
-        rest = tail;
+    for code in coded {
+        calls.push(TraceCall::try_from(*code)?)?;
     }
-    if rest.is_empty() {
-        Ok(calls)
-    } else {
-        Err(DecodeError::Malformed)
-    }
+    Ok(calls)
 }
 
 // The trace in the bytes. Encoded again, it gives the bytes but for those that are ignored.
@@ -70,9 +64,7 @@ pub fn decode(heap: Global, bytes: &[u8]) -> Result<Trace, DecodeError>
     ensures value { Finds trace_of (decoded bytes.now) result }
     ensures canonical { IfOk result (λ t. canonical_form bytes.now ≡ encoded (trace_of t)) }
 {
-    let Some(sections) = split(bytes) else {
-        return Err(DecodeError::Malformed);
-    };
+    let sections = split(bytes).ok_or(DecodeError::Malformed)?;
     if !are_entries(sections.plan) {
         return Err(DecodeError::Malformed);
     }

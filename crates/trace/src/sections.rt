@@ -24,34 +24,26 @@ fn section(bytes: &[u8], most: usize, width: usize) -> Option<(&[u8], &[u8])>
     requires { width ≤ 4 }
     ensures { option_map both_now result ≡ section_of most width bytes.now }
 {
-    let [low, high, rest @ ..] = bytes else {
-        return None;
-    };
-    let count = *low as usize + 256 * *high as usize;
-    if count > most || count * width > rest.len() {
+    let (count, rest) = bytes.split_first_chunk()?;
+    let count = usize::from(u16::from_le_bytes(*count));
+    if count > most {
         return None;
     }
-    Some(rest.split_at(count * width))
+    rest.split_at_checked(count * width)
 }
 
 // The three sections, if the input is made of them and nothing else.
 pub(crate) fn split(bytes: &[u8]) -> Option<Sections<'_>>
     ensures { option_map sections_now result ≡ sections_of bytes.now }
 {
-    let [count, mode, retry, rest @ ..] = bytes else {
+    let [OPTIONS, mode, retry, rest @ ..] = bytes else {
         return None;
     };
-    if *count != OPTIONS {
-        return None;
-    }
-    let mode = Mode::from_byte(*mode)?;
+    let mode = Mode::try_from(*mode).ok()?;
     let retry = flag_from_byte(*retry)?;
     let (plan, rest) = section(rest, PLAN_MAX, 1)?;
     let (calls, rest) = section(rest, CALLS_MAX, CALL_BYTES)?;
-    if !rest.is_empty() {
-        return None;
-    }
-    Some(Sections {
+    rest.is_empty().then_some(Sections {
         mode,
         retry,
         plan,
@@ -63,10 +55,5 @@ pub(crate) fn split(bytes: &[u8]) -> Option<Sections<'_>>
 pub(crate) fn are_entries(bytes: &[u8]) -> bool
     ensures { result ≡ all_entries bytes.now }
 {
-    for byte in bytes {
-        if *byte > 1 {
-            return false;
-        }
-    }
-    true
+    bytes.iter().all(|byte| *byte <= 1)
 }

@@ -15,7 +15,7 @@ pub struct Trace {
     pub mode: Mode,
     // whether a retry layer stands on the disk
     pub retry: bool,
-    // an entry for each call of the disk: 0 good, 1 bad
+    // an entry for each call of the disk: 0 good, 1 bad; bytes, since a disk is given bytes and refuses any other
     pub plan: Vec<u8>,
     pub calls: Vec<TraceCall>,
     ghost short: { vec_len plan ≤ 256 },
