@@ -50,18 +50,18 @@ fn cut_after(heap: Global, cut: &Cut) -> Result<(), Fail> {
     play(
         &mut cache,
         &[
-            (Begin(0, 5), 1),
-            (Begin(1, 6), 2),
-            (Finish(1), 3),
-            (Finish(2), 4),
-            (Seal, 1),
+            (Begin(0, 5), Ok(1)),
+            (Begin(1, 6), Ok(2)),
+            (Finish(1), Ok(3)),
+            (Finish(2), Ok(4)),
+            (Seal, Ok(1)),
         ],
     )?;
     busy(&mut cache, cut.steps)?;
     let mut cache = recovered(cache.cut(0), cut.number)?;
     play(
         &mut cache,
-        &[(Read(0), cut.shown[0]), (Read(1), cut.shown[1])],
+        &[(Read(0), Ok(cut.shown[0])), (Read(1), Ok(cut.shown[1]))],
     )?;
     Ok(())
 }
