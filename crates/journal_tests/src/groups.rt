@@ -2,10 +2,9 @@
 use crate::tools::Ask::*;
 use crate::tools::{busy, live, play, recovered};
 use disk::disk::BenchDisk;
-use memdisk::through::ThroughDisk;
-use std::alloc::{AllocError, Global};
+use std::alloc::Global;
 use std::test::Fail;
-use test_tools::disks::held;
+use test_tools::disks::{held, through};
 
 // The steps of a group of two before a restart, and those that it takes after: from the first slot, the first home place, or the empty head.
 const RESTARTS: [(u32, u32); 10] = [
@@ -45,8 +44,8 @@ fn restarted(heap: Global, before: u32, after: u32) -> Result<(), Fail> {
 
 #[test]
 fn a_restart_in_each_phase(rt: HostRuntime) -> Result<(), Fail> {
-    for line in &RESTARTS {
-        restarted(rt.alloc(), line.0, line.1)?;
+    for (before, after) in &RESTARTS {
+        restarted(rt.alloc(), *before, *after)?;
     }
     Ok(())
 }
@@ -61,20 +60,21 @@ const CUTS: [(u32, u8, u32, u32, u32); 5] = [
 ];
 
 fn numbered(heap: Global, line: (u32, u8, u32, u32, u32)) -> Result<(), Fail> {
+    let (steps, choice, number, shown, next) = line;
     let mut cache = live(held(heap, 10, &[])?)?;
     play(
         &mut cache,
         &[(Begin(0, 5), Ok(1)), (Finish(1), Ok(2)), (Seal, Ok(1))],
     )?;
-    busy(&mut cache, line.0)?;
-    let mut cache = recovered(cache.cut(line.1), line.2)?;
+    busy(&mut cache, steps)?;
+    let mut cache = recovered(cache.cut(choice), number)?;
     play(
         &mut cache,
         &[
-            (Read(0), Ok(line.3)),
+            (Read(0), Ok(shown)),
             (Begin(0, 6), Ok(1)),
             (Finish(1), Ok(2)),
-            (Seal, Ok(line.4)),
+            (Seal, Ok(next)),
         ],
     )?;
     Ok(())
@@ -91,11 +91,7 @@ fn a_lost_sealing_gives_its_number_back(rt: HostRuntime) -> Result<(), Fail> {
 // On a disk whose writes settle the head commits before its flush.
 #[test]
 fn a_settled_head_outlives_the_cut(rt: HostRuntime) -> Result<(), Fail> {
-    let memory = vec![in rt.alloc(); 0; 5120]?;
-    let Ok(disk) = ThroughDisk::new(memory, Vec::new(rt.alloc())) else {
-        return Err(Fail::new("no through disk"));
-    };
-    let mut cache = live(disk)?;
+    let mut cache = live(through(rt.alloc(), 10, &[])?)?;
     play(
         &mut cache,
         &[(Begin(0, 5), Ok(1)), (Finish(1), Ok(2)), (Seal, Ok(1))],

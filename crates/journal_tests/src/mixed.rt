@@ -3,7 +3,7 @@ use crate::tools::Ask::*;
 use crate::tools::{busy, live, play, recovered};
 use disk::disk::{BLOCK, BenchDisk};
 use mixed_disk::MixedDisk;
-use std::alloc::{AllocError, Global};
+use std::alloc::Global;
 use std::test::Fail;
 
 // A cut with choice 0 drops what joined: the head is kept where its place, nine below the size, is odd.
@@ -43,10 +43,7 @@ const CUTS: [Cut; 4] = [
 
 fn cut_after(heap: Global, cut: &Cut) -> Result<(), Fail> {
     let memory = vec![in heap; 0; cut.blocks.saturating_mul(BLOCK)]?;
-    let Ok(disk) = MixedDisk::new(heap, memory) else {
-        return Err(Fail::new("no mixed disk"));
-    };
-    let mut cache = live(disk)?;
+    let mut cache = live(MixedDisk::new(heap, memory)?)?;
     play(
         &mut cache,
         &[

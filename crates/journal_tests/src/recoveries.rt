@@ -85,10 +85,7 @@ fn broken_off_at_each_call_then_completed(rt: HostRuntime) -> Result<(), Fail> {
 fn the_last_number_seals_no_more(rt: HostRuntime) -> Result<(), Fail> {
     let mut head = [0; BLOCK];
     head[0] = 1;
-    head[1] = 255;
-    head[2] = 255;
-    head[3] = 255;
-    head[4] = 255;
+    head[1..5].fill(255);
     let mut disk = held(rt.alloc(), 10, &[])?;
     disk.write(1, &head)?;
     let mut cache = recovered(Cold::new(disk), 4_294_967_295)?;

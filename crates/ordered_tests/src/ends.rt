@@ -6,6 +6,7 @@ use ordered::cold::Cold;
 use precedence::Overlap;
 use std::alloc::Global;
 use std::test::Fail;
+use test_tools::checks::check;
 use test_tools::disks::held;
 
 #[test]
@@ -38,9 +39,8 @@ fn cut_by(heap: Global, choice: u8, first: u32, second: u32) -> Result<(), Fail>
         ],
     )?;
     let mut cold = cache.cut(choice);
-    if cold.open().is_err() || !cold.is_accepted() {
-        return Err(Fail::new("not opened"));
-    }
+    cold.open()?;
+    check(cold.is_accepted())?;
     let mut cache = cold.into_live(Overlap);
     play(
         &mut cache,

@@ -5,6 +5,7 @@ use crate::tools::{live, play};
 use disk::disk::BenchDisk;
 use precedence::Overlap;
 use std::test::Fail;
+use test_tools::checks::check;
 
 #[test]
 fn all_come_home_after_a_restart(rt: HostRuntime) -> Result<(), Fail> {
@@ -44,9 +45,8 @@ fn a_cut_between_the_two(rt: HostRuntime) -> Result<(), Fail> {
         ],
     )?;
     let mut cold = cache.cut(0);
-    if cold.open().is_err() || !cold.is_accepted() {
-        return Err(Fail::new("not opened"));
-    }
+    cold.open()?;
+    check(cold.is_accepted())?;
     let mut cache = cold.into_live(Overlap);
     play(&mut cache, &[(Read(0), Ok(5)), (Read(1), Ok(6))])?;
     Ok(())
