@@ -68,12 +68,10 @@ impl Disk for Mixed {
         if place >= SIZE {
             return Err(DiskError::Place);
         }
-        let block = if place != 0 {
-            self.odd
-        } else if let Some(loose) = self.loose {
-            loose
+        let block = if place == 0 {
+            self.loose.unwrap_or(self.even)
         } else {
-            self.even
+            self.odd
         };
         buffer.copy_from_slice(&block);
         Ok(())
