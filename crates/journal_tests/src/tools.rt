@@ -36,8 +36,8 @@ pub(crate) fn live<D: BenchDisk + Drop>(disk: D) -> Result<Live<D>, Fail> {
     recovered(cold, 0)
 }
 
-// A call of the cache, as the lines of a test name it. The ordered cache has calls of its own, a tally and no seal, and so its tests have a
-// list of their own.
+// A call of the cache, as the lines of a test name it. The tests of the ordered cache have a list of their own, with a tally and no seal: a
+// trait that forwards what the two caches share would be longer than what it saves.
 #[derive(Clone, Copy)]
 pub(crate) enum Ask {
     // a place, and the byte that fills its block

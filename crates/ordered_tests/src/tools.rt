@@ -18,8 +18,8 @@ pub(crate) fn live<D: BenchDisk + Drop, P: Precedence + Drop>(
     Ok(cold.into_live(order))
 }
 
-// A call of the cache, as the lines of a test name it. The journaled cache has calls of its own, a seal and no tally, and so its tests have a
-// list of their own.
+// A call of the cache, as the lines of a test name it. The tests of the journaled cache have a list of their own, with a seal and no tally: a
+// trait that forwards what the two caches share would be longer than what it saves.
 #[derive(Clone, Copy)]
 pub(crate) enum Ask {
     // a place, and the byte that fills its block

@@ -1,5 +1,5 @@
 // Checks that helpers of tests make: where one does not hold, the test ends there.
-ghost use Rattle.std.specs.Prelude.{◌≡◌, true, is_ok, OnOk};
+ghost use Rattle.std.specs.Prelude.{◌≡◌, is_ok, OnOk};
 ghost use Rattle.std.specs.List.{FoldsTo};
 ghost use Rattle.test_tools.specs.Checks.{AnswersAs};
 

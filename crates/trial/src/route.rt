@@ -37,7 +37,7 @@ pub(crate) trait Route {
     fn bound(faults: u32) -> u32;
 }
 
-// Has each block of the new mark written in turn.
+// Has each block of the new mark written in turn: the closure begins and finishes a write of its cache.
 fn write_new<F: FnMut(usize, &[u8]) -> Result<(), CacheError>>(
     mut write: F,
 ) -> Result<(), CacheError>
