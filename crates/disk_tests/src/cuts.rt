@@ -1,7 +1,8 @@
 // What a cut keeps of the loose writes.
-use crate::tools::{fill, first, held, through};
+use crate::tools::{fill, first};
 use disk::disk::{BenchDisk, Disk};
 use std::test::Fail;
+use test_tools::disks::{held, through};
 
 #[test]
 fn the_ninth_write_settles_all(rt: HostRuntime) -> Result<(), Fail> {

@@ -1,9 +1,10 @@
 // Retry layers, one and two.
-use crate::tools::{fill, first, held};
+use crate::tools::{fill, first};
 use disk::disk::{BenchDisk, Disk};
 use disk::error::{DiskError, Fault, Kind};
 use retry::Retry;
 use std::test::Fail;
+use test_tools::disks::held;
 
 #[test]
 fn two_bads_and_then_a_good(rt: HostRuntime) -> Result<(), Fail> {

@@ -37,26 +37,20 @@ fn whole_blocks_only(rt: HostRuntime) -> Result<(), Fail> {
 fn a_plan_has_no_byte_above_one(rt: HostRuntime) -> Result<(), Fail> {
     let heap = rt.alloc();
     let memory = vec![in heap; 3; 512]?;
-    match ThroughDisk::new(memory, [1, 2].to_vec(heap)?) {
-        Ok(_) => Err(Fail::new("made with a plan byte of 2")),
-        Err(refused) => {
-            assert_eq!(rt; refused.number(), 13);
-            assert_eq!(rt; refused.memory.first().copied(), Some(3));
-            assert_eq!(rt; refused.plan.last().copied(), Some(2));
-            Ok(())
-        }
-    }
+    let Err(refused) = ThroughDisk::new(memory, [1, 2].to_vec(heap)?) else {
+        return Err(Fail::new("made with a plan byte of 2"));
+    };
+    assert_eq!(rt; refused.number(), 13);
+    assert_eq!(rt; refused.memory.first().copied(), Some(3));
+    assert_eq!(rt; refused.plan.last().copied(), Some(2));
+    Ok(())
 }
 
 #[test]
 fn the_blocks_come_back(rt: HostRuntime) -> Result<(), Fail> {
     let heap = rt.alloc();
     let memory = vec![in heap; 3; 512]?;
-    match ThroughDisk::new(memory, Vec::new(heap)) {
-        Ok(disk) => {
-            assert_eq!(rt; disk.into_memory().last().copied(), Some(3));
-            Ok(())
-        },
-        Err(_) => Err(Fail::new("no through disk")),
-    }
+    let disk = ThroughDisk::new(memory, Vec::new(heap))?;
+    assert_eq!(rt; disk.into_memory().last().copied(), Some(3));
+    Ok(())
 }

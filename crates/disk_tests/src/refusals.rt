@@ -1,8 +1,9 @@
 // The length is tested before the place, and both before the plan; a refusal leaves plan and buffer.
-use crate::tools::{fill, first, held, through};
+use crate::tools::{fill, first};
 use disk::disk::{BLOCK, Disk};
 use disk::error::{DiskError, Fault, Kind};
 use std::test::Fail;
+use test_tools::disks::{held, through};
 
 const SHORT: usize = 511;
 

@@ -1,7 +1,8 @@
 // Begin, finish, withdraw and seal: what they refuse, in which order, and what they answer.
 use crate::tools::Ask::*;
-use crate::tools::{held, live, play};
+use crate::tools::{live, play};
 use std::test::Fail;
+use test_tools::disks::held;
 
 // Of eleven blocks two are home places.
 #[test]
@@ -10,12 +11,12 @@ fn length_then_place_then_open(rt: HostRuntime) -> Result<(), Fail> {
     play(
         &mut cache,
         &[
-            (BeginShort(2), 101),
-            (Begin(2, 1), 102),
-            (Begin(1, 1), 1),
-            (Begin(1, 2), 103),
-            (Finish(1), 2),
-            (Begin(1, 2), 3),
+            (BeginShort(2), Err(1)),
+            (Begin(2, 1), Err(2)),
+            (Begin(1, 1), Ok(1)),
+            (Begin(1, 2), Err(3)),
+            (Finish(1), Ok(2)),
+            (Begin(1, 2), Ok(3)),
         ],
     )?;
     Ok(())
@@ -31,21 +32,21 @@ fn eight_places_and_no_more(rt: HostRuntime) -> Result<(), Fail> {
     play(
         &mut cache,
         &[
-            (Begin(11, 1), 102),
-            (Begin(0, 1), 103),
-            (Begin(8, 1), 104),
-            (Finish(1), 9),
-            (Begin(8, 1), 104),
-            (Begin(0, 2), 10),
-            (Begin(8, 1), 104),
-            (Withdraw(2), 0),
-            (Begin(8, 1), 11),
-            (Begin(9, 1), 104),
-            (Seal, 1),
-            (Begin(9, 1), 104),
-            (Withdraw(10), 0),
-            (Begin(9, 1), 12),
-            (Begin(0, 1), 104),
+            (Begin(11, 1), Err(2)),
+            (Begin(0, 1), Err(3)),
+            (Begin(8, 1), Err(4)),
+            (Finish(1), Ok(9)),
+            (Begin(8, 1), Err(4)),
+            (Begin(0, 2), Ok(10)),
+            (Begin(8, 1), Err(4)),
+            (Withdraw(2), Ok(0)),
+            (Begin(8, 1), Ok(11)),
+            (Begin(9, 1), Err(4)),
+            (Seal, Ok(1)),
+            (Begin(9, 1), Err(4)),
+            (Withdraw(10), Ok(0)),
+            (Begin(9, 1), Ok(12)),
+            (Begin(0, 1), Err(4)),
         ],
     )?;
     Ok(())
@@ -57,16 +58,16 @@ fn tickets_of_open_writes_only(rt: HostRuntime) -> Result<(), Fail> {
     play(
         &mut cache,
         &[
-            (Finish(0), 106),
-            (Withdraw(1), 106),
-            (Begin(0, 1), 1),
-            (Finish(2), 106),
-            (Finish(1), 2),
-            (Finish(1), 106),
-            (Withdraw(1), 106),
-            (Begin(0, 1), 3),
-            (Withdraw(3), 0),
-            (Withdraw(3), 106),
+            (Finish(0), Err(6)),
+            (Withdraw(1), Err(6)),
+            (Begin(0, 1), Ok(1)),
+            (Finish(2), Err(6)),
+            (Finish(1), Ok(2)),
+            (Finish(1), Err(6)),
+            (Withdraw(1), Err(6)),
+            (Begin(0, 1), Ok(3)),
+            (Withdraw(3), Ok(0)),
+            (Withdraw(3), Err(6)),
         ],
     )?;
     Ok(())
@@ -79,27 +80,27 @@ fn one_group_at_a_time(rt: HostRuntime) -> Result<(), Fail> {
     play(
         &mut cache,
         &[
-            (Begin(0, 1), 1),
-            (Seal, 108),
-            (Step, 0),
-            (Finish(1), 2),
-            (Step, 0),
-            (Seal, 1),
-            (Seal, 109),
-            (Begin(0, 2), 3),
-            (Finish(3), 4),
-            (Seal, 109),
-            (Step, 1),
-            (Step, 2),
-            (Step, 1),
-            (Step, 2),
-            (Step, 1),
-            (Step, 2),
-            (Step, 1),
-            (Seal, 109),
-            (Step, 2),
-            (Step, 0),
-            (Seal, 2),
+            (Begin(0, 1), Ok(1)),
+            (Seal, Err(8)),
+            (Step, Ok(0)),
+            (Finish(1), Ok(2)),
+            (Step, Ok(0)),
+            (Seal, Ok(1)),
+            (Seal, Err(9)),
+            (Begin(0, 2), Ok(3)),
+            (Finish(3), Ok(4)),
+            (Seal, Err(9)),
+            (Step, Ok(1)),
+            (Step, Ok(2)),
+            (Step, Ok(1)),
+            (Step, Ok(2)),
+            (Step, Ok(1)),
+            (Step, Ok(2)),
+            (Step, Ok(1)),
+            (Seal, Err(9)),
+            (Step, Ok(2)),
+            (Step, Ok(0)),
+            (Seal, Ok(2)),
         ],
     )?;
     Ok(())

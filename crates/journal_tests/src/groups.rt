@@ -1,10 +1,10 @@
 // Restarts, cuts and group numbers.
 use crate::tools::Ask::*;
-use crate::tools::{busy, held, live, play, recovered};
+use crate::tools::{busy, live, play, recovered};
 use disk::disk::BenchDisk;
-use memdisk::through::ThroughDisk;
-use std::alloc::{AllocError, Global};
+use std::alloc::Global;
 use std::test::Fail;
+use test_tools::disks::{held, through};
 
 // The steps of a group of two before a restart, and those that it takes after: from the first slot, the first home place, or the empty head.
 const RESTARTS: [(u32, u32); 10] = [
@@ -26,26 +26,26 @@ fn restarted(heap: Global, before: u32, after: u32) -> Result<(), Fail> {
     play(
         &mut cache,
         &[
-            (Begin(0, 5), 1),
-            (Begin(1, 6), 2),
-            (Finish(1), 3),
-            (Finish(2), 4),
-            (Seal, 1),
+            (Begin(0, 5), Ok(1)),
+            (Begin(1, 6), Ok(2)),
+            (Finish(1), Ok(3)),
+            (Finish(2), Ok(4)),
+            (Seal, Ok(1)),
         ],
     )?;
     busy(&mut cache, before)?;
-    play(&mut cache, &[(Restart(0), 0)])?;
+    play(&mut cache, &[(Restart(0), Ok(0))])?;
     busy(&mut cache, after)?;
-    play(&mut cache, &[(Step, 0)])?;
+    play(&mut cache, &[(Step, Ok(0))])?;
     let mut cache = recovered(cache.cut(0), 1)?;
-    play(&mut cache, &[(Read(0), 5), (Read(1), 6)])?;
+    play(&mut cache, &[(Read(0), Ok(5)), (Read(1), Ok(6))])?;
     Ok(())
 }
 
 #[test]
 fn a_restart_in_each_phase(rt: HostRuntime) -> Result<(), Fail> {
-    for line in &RESTARTS {
-        restarted(rt.alloc(), line.0, line.1)?;
+    for (before, after) in &RESTARTS {
+        restarted(rt.alloc(), *before, *after)?;
     }
     Ok(())
 }
@@ -60,17 +60,21 @@ const CUTS: [(u32, u8, u32, u32, u32); 5] = [
 ];
 
 fn numbered(heap: Global, line: (u32, u8, u32, u32, u32)) -> Result<(), Fail> {
+    let (steps, choice, number, shown, next) = line;
     let mut cache = live(held(heap, 10, &[])?)?;
-    play(&mut cache, &[(Begin(0, 5), 1), (Finish(1), 2), (Seal, 1)])?;
-    busy(&mut cache, line.0)?;
-    let mut cache = recovered(cache.cut(line.1), line.2)?;
+    play(
+        &mut cache,
+        &[(Begin(0, 5), Ok(1)), (Finish(1), Ok(2)), (Seal, Ok(1))],
+    )?;
+    busy(&mut cache, steps)?;
+    let mut cache = recovered(cache.cut(choice), number)?;
     play(
         &mut cache,
         &[
-            (Read(0), line.3),
-            (Begin(0, 6), 1),
-            (Finish(1), 2),
-            (Seal, line.4),
+            (Read(0), Ok(shown)),
+            (Begin(0, 6), Ok(1)),
+            (Finish(1), Ok(2)),
+            (Seal, Ok(next)),
         ],
     )?;
     Ok(())
@@ -87,14 +91,13 @@ fn a_lost_sealing_gives_its_number_back(rt: HostRuntime) -> Result<(), Fail> {
 // On a disk whose writes settle the head commits before its flush.
 #[test]
 fn a_settled_head_outlives_the_cut(rt: HostRuntime) -> Result<(), Fail> {
-    let memory = vec![in rt.alloc(); 0; 5120]?;
-    let Ok(disk) = ThroughDisk::new(memory, Vec::new(rt.alloc())) else {
-        return Err(Fail::new("no through disk"));
-    };
-    let mut cache = live(disk)?;
-    play(&mut cache, &[(Begin(0, 5), 1), (Finish(1), 2), (Seal, 1)])?;
+    let mut cache = live(through(rt.alloc(), 10, &[])?)?;
+    play(
+        &mut cache,
+        &[(Begin(0, 5), Ok(1)), (Finish(1), Ok(2)), (Seal, Ok(1))],
+    )?;
     busy(&mut cache, 3)?;
     let mut cache = recovered(cache.cut(0), 1)?;
-    play(&mut cache, &[(Read(0), 5)])?;
+    play(&mut cache, &[(Read(0), Ok(5))])?;
     Ok(())
 }

@@ -3,7 +3,7 @@ use crate::tools::Ask::*;
 use crate::tools::{busy, live, play, recovered};
 use disk::disk::{BLOCK, BenchDisk};
 use mixed_disk::MixedDisk;
-use std::alloc::{AllocError, Global};
+use std::alloc::Global;
 use std::test::Fail;
 
 // A cut with choice 0 drops what joined: the head is kept where its place, nine below the size, is odd.
@@ -43,25 +43,22 @@ const CUTS: [Cut; 4] = [
 
 fn cut_after(heap: Global, cut: &Cut) -> Result<(), Fail> {
     let memory = vec![in heap; 0; cut.blocks.saturating_mul(BLOCK)]?;
-    let Ok(disk) = MixedDisk::new(heap, memory) else {
-        return Err(Fail::new("no mixed disk"));
-    };
-    let mut cache = live(disk)?;
+    let mut cache = live(MixedDisk::new(heap, memory)?)?;
     play(
         &mut cache,
         &[
-            (Begin(0, 5), 1),
-            (Begin(1, 6), 2),
-            (Finish(1), 3),
-            (Finish(2), 4),
-            (Seal, 1),
+            (Begin(0, 5), Ok(1)),
+            (Begin(1, 6), Ok(2)),
+            (Finish(1), Ok(3)),
+            (Finish(2), Ok(4)),
+            (Seal, Ok(1)),
         ],
     )?;
     busy(&mut cache, cut.steps)?;
     let mut cache = recovered(cache.cut(0), cut.number)?;
     play(
         &mut cache,
-        &[(Read(0), cut.shown[0]), (Read(1), cut.shown[1])],
+        &[(Read(0), Ok(cut.shown[0])), (Read(1), Ok(cut.shown[1]))],
     )?;
     Ok(())
 }

@@ -1,10 +1,12 @@
 // What a read shows, and what a refused one leaves.
 use crate::tools::Ask::*;
-use crate::tools::{SHORT, busy, fault, held, live, play, recovered};
+use crate::tools::{SHORT, busy, live, play, recovered};
 use disk::disk::{BLOCK, BenchDisk, Disk};
 use disk::error::{Fault, Kind};
 use errors::{CacheCall, CacheError};
 use std::test::Fail;
+use test_tools::disks::held;
+use test_tools::faults::fault_during;
 
 #[test]
 fn collected_then_sealed_then_disk(rt: HostRuntime) -> Result<(), Fail> {
@@ -12,23 +14,23 @@ fn collected_then_sealed_then_disk(rt: HostRuntime) -> Result<(), Fail> {
     play(
         &mut cache,
         &[
-            (Begin(1, 5), 1),
-            (Read(1), 0),
-            (Finish(1), 2),
-            (Read(1), 5),
-            (Seal, 1),
-            (Read(1), 5),
-            (Begin(1, 6), 3),
-            (Read(1), 5),
-            (Finish(3), 4),
-            (Read(1), 6),
-            (Read(0), 0),
+            (Begin(1, 5), Ok(1)),
+            (Read(1), Ok(0)),
+            (Finish(1), Ok(2)),
+            (Read(1), Ok(5)),
+            (Seal, Ok(1)),
+            (Read(1), Ok(5)),
+            (Begin(1, 6), Ok(3)),
+            (Read(1), Ok(5)),
+            (Finish(3), Ok(4)),
+            (Read(1), Ok(6)),
+            (Read(0), Ok(0)),
         ],
     )?;
     busy(&mut cache, 8)?;
-    play(&mut cache, &[(Step, 0), (Read(1), 6)])?;
+    play(&mut cache, &[(Step, Ok(0)), (Read(1), Ok(6))])?;
     let mut cache = recovered(cache.cut(0), 1)?;
-    play(&mut cache, &[(Read(1), 5)])?;
+    play(&mut cache, &[(Read(1), Ok(5))])?;
     Ok(())
 }
 
@@ -47,7 +49,7 @@ fn a_refused_read_leaves_the_buffer(rt: HostRuntime) -> Result<(), Fail> {
         tries: 1,
     };
     assert_eq!(rt;
-        fault(cache.read(1, &mut buffer), CacheCall::Read),
+        fault_during(CacheCall::Read, cache.read(1, &mut buffer)),
         Some(bad)
     );
     assert_eq!(rt; buffer[0], 7);

@@ -29,7 +29,8 @@ pub enum Verdict {
 }
 
 impl Mark {
-    // The block of the side: 1 upstream, 0 downstream.
+    // The block of the side: 1 upstream, 0 downstream. The byte is made here alone and read back in `from_blocks` alone, so `Side` has no
+    // conversion of its own.
     pub fn side_block(&self) -> [u8; BLOCK]
         ensures { result ≡ side_bytes self.now.side }
     {
@@ -45,8 +46,9 @@ impl Mark {
         ensures { result ≡ distance_bytes self.now.millimetres }
     {
         let mut block = [0; BLOCK];
-        block[0] = (self.millimetres % 256) as u8;
-        block[1] = (self.millimetres / 256) as u8;
+        let [low, high] = self.millimetres.to_le_bytes();
+        block[0] = low;
+        block[1] = high;
         block
     }
 
@@ -60,7 +62,7 @@ impl Mark {
         } else {
             Side::Downstream
         };
-        let millimetres = u16::from(distance[0]) + 256 * u16::from(distance[1]);
+        let millimetres = u16::from_le_bytes([distance[0], distance[1]]);
         Mark { side, millimetres }
     }
 

@@ -1,8 +1,9 @@
 // Begin, finish and withdraw: what they refuse, in which order, and what they answer.
 use crate::tools::Ask::*;
-use crate::tools::{held, live, play};
+use crate::tools::{live, play};
 use precedence::Overlap;
 use std::test::Fail;
+use test_tools::disks::held;
 
 #[test]
 fn length_then_place_then_open(rt: HostRuntime) -> Result<(), Fail> {
@@ -10,12 +11,12 @@ fn length_then_place_then_open(rt: HostRuntime) -> Result<(), Fail> {
     play(
         &mut cache,
         &[
-            (BeginShort(2), 101),
-            (Begin(2, 1), 102),
-            (Begin(1, 1), 1),
-            (Begin(1, 2), 103),
-            (Finish(1), 2),
-            (Begin(1, 2), 3),
+            (BeginShort(2), Err(1)),
+            (Begin(2, 1), Err(2)),
+            (Begin(1, 1), Ok(1)),
+            (Begin(1, 2), Err(3)),
+            (Finish(1), Ok(2)),
+            (Begin(1, 2), Ok(3)),
         ],
     )?;
     Ok(())
@@ -31,12 +32,12 @@ fn thirty_two_writes_and_no_more(rt: HostRuntime) -> Result<(), Fail> {
     play(
         &mut cache,
         &[
-            (Begin(0, 1), 103),
-            (Begin(32, 1), 104),
-            (Finish(7), 33),
-            (Begin(32, 1), 104),
-            (Withdraw(8), 0),
-            (Begin(32, 1), 34),
+            (Begin(0, 1), Err(3)),
+            (Begin(32, 1), Err(4)),
+            (Finish(7), Ok(33)),
+            (Begin(32, 1), Err(4)),
+            (Withdraw(8), Ok(0)),
+            (Begin(32, 1), Ok(34)),
         ],
     )?;
     Ok(())
@@ -48,15 +49,15 @@ fn tickets_of_open_writes_only(rt: HostRuntime) -> Result<(), Fail> {
     play(
         &mut cache,
         &[
-            (Finish(0), 106),
-            (Begin(0, 1), 1),
-            (Finish(2), 106),
-            (Finish(1), 2),
-            (Finish(1), 106),
-            (Withdraw(1), 106),
-            (Begin(0, 1), 3),
-            (Withdraw(3), 0),
-            (Withdraw(3), 106),
+            (Finish(0), Err(6)),
+            (Begin(0, 1), Ok(1)),
+            (Finish(2), Err(6)),
+            (Finish(1), Ok(2)),
+            (Finish(1), Err(6)),
+            (Withdraw(1), Err(6)),
+            (Begin(0, 1), Ok(3)),
+            (Withdraw(3), Ok(0)),
+            (Withdraw(3), Err(6)),
         ],
     )?;
     Ok(())

@@ -1,11 +1,13 @@
 // Openings and cuts.
 use crate::tools::Ask::*;
-use crate::tools::{held, live, play};
+use crate::tools::{live, play};
 use disk::disk::BenchDisk;
 use ordered::cold::Cold;
 use precedence::Overlap;
 use std::alloc::Global;
 use std::test::Fail;
+use test_tools::checks::check;
+use test_tools::disks::held;
 
 #[test]
 fn a_faulty_opening_leaves_the_volume_cold(rt: HostRuntime) -> Result<(), Fail> {
@@ -24,30 +26,29 @@ fn cut_by(heap: Global, choice: u8, first: u32, second: u32) -> Result<(), Fail>
     play(
         &mut cache,
         &[
-            (Begin(0, 1), 1),
-            (Finish(1), 2),
-            (Step, 1),
-            (Step, 2),
-            (Begin(1, 2), 3),
-            (Begin(2, 3), 4),
-            (Finish(3), 5),
-            (Finish(4), 6),
-            (Step, 1),
-            (Step, 1),
+            (Begin(0, 1), Ok(1)),
+            (Finish(1), Ok(2)),
+            (Step, Ok(1)),
+            (Step, Ok(2)),
+            (Begin(1, 2), Ok(3)),
+            (Begin(2, 3), Ok(4)),
+            (Finish(3), Ok(5)),
+            (Finish(4), Ok(6)),
+            (Step, Ok(1)),
+            (Step, Ok(1)),
         ],
     )?;
     let mut cold = cache.cut(choice);
-    if cold.open().is_err() || !cold.is_accepted() {
-        return Err(Fail::new("not opened"));
-    }
+    cold.open()?;
+    check(cold.is_accepted())?;
     let mut cache = cold.into_live(Overlap);
     play(
         &mut cache,
         &[
-            (Read(0), 1),
-            (Read(1), first),
-            (Read(2), second),
-            (Begin(1, 9), 1),
+            (Read(0), Ok(1)),
+            (Read(1), Ok(first)),
+            (Read(2), Ok(second)),
+            (Begin(1, 9), Ok(1)),
         ],
     )?;
     Ok(())

@@ -1,5 +1,8 @@
 // A disk of its own, with a rule of its own: writes at the even place join if none is loose, those at the odd place settle.
+// The disk of the crate `mixed_disk` goes by the place alone; this rule changes as the disk does.
 ghost use Rattle.std.specs.Prelude.{◌≡◌, length};
+ghost use Rattle.std.specs.Option.{ForSome};
+ghost use Rattle.disk.specs.Medium.{flushed};
 ghost use Rattle.ordered_tests.specs.Mixing.{mixed, mixed_rule, blank};
 ghost use Rattle.ordered_tests.specs.Soundness.{mixed_sound};
 
@@ -12,36 +15,43 @@ const SIZE: usize = 2;
 pub struct Mixed {
     even: [u8; BLOCK],
     odd: [u8; BLOCK],
-    // whether a write of the even place is loose, and its bytes
-    pending: bool,
-    loose: [u8; BLOCK],
+    // the bytes of a loose write of the even place
+    loose: Option<[u8; BLOCK]>,
     ghost even_full: { length even ≡ 512 },
     ghost odd_full: { length odd ≡ 512 },
-    ghost loose_full: { length loose ≡ 512 },
+    ghost loose_full: { ForSome loose (λ b. length b ≡ 512) },
 }
 
 impl Mixed {
     // Two zero blocks.
     pub fn new() -> Mixed
-        ensures { mixed result.even result.odd result.loose result.pending ≡ blank }
+        ensures { mixed result.even result.odd result.loose ≡ blank }
     {
         Mixed {
             even: [0; BLOCK],
             odd: [0; BLOCK],
-            pending: false,
-            loose: [0; BLOCK],
+            loose: None,
+        }
+    }
+
+    // A loose write becomes firm.
+    fn settle(&mut self)
+        ensures { mixed self.new.even self.new.odd self.new.loose ≡ flushed (mixed self.old.even self.old.odd self.old.loose) }
+    {
+        if let Some(loose) = self.loose.take() {
+            self.even = loose;
         }
     }
 }
 
 impl Disk for Mixed {
-    ghost medium = { λ d. mixed d.even d.odd d.loose d.pending };
+    ghost medium = { λ d. mixed d.even d.odd d.loose };
 
     ghost attempts = { 1 };
 
-    ghost rule = { λ d w. mixed_rule d.pending w };
+    ghost rule = { λ d w. mixed_rule d.loose w };
 
-    ghost sound = { λ d. mixed_sound d.even d.odd d.loose d.pending d.even_full d.odd_full d.loose_full };
+    ghost sound = { λ d. mixed_sound d.even d.odd d.loose d.even_full d.odd_full d.loose_full };
 
     fn tries() -> u32 {
         1
@@ -58,15 +68,12 @@ impl Disk for Mixed {
         if place >= SIZE {
             return Err(DiskError::Place);
         }
-        if place != 0 {
-            buffer.copy_from_slice(&self.odd);
-            return Ok(());
-        }
-        if self.pending {
-            buffer.copy_from_slice(&self.loose);
-            return Ok(());
-        }
-        buffer.copy_from_slice(&self.even);
+        let block = if place == 0 {
+            self.loose.unwrap_or(self.even)
+        } else {
+            self.odd
+        };
+        buffer.copy_from_slice(&block);
         Ok(())
     }
 
@@ -80,44 +87,27 @@ impl Disk for Mixed {
         let mut block = [0; BLOCK];
         block.copy_from_slice(bytes);
         if place != 0 {
-            if self.pending {
-                let loose = self.loose;
-                self.even = loose;
-                self.pending = false;
-                self.odd = block;
-                return Ok(());
-            }
+            self.settle();
             self.odd = block;
-            return Ok(());
-        }
-        if self.pending {
+        } else if self.loose.take().is_some() {
             self.even = block;
-            self.pending = false;
-            return Ok(());
+        } else {
+            self.loose = Some(block);
         }
-        self.loose = block;
-        self.pending = true;
         Ok(())
     }
 
     fn flush(&mut self) -> Result<(), DiskError> {
-        if self.pending {
-            let loose = self.loose;
-            self.even = loose;
-            self.pending = false;
-        }
+        self.settle();
         Ok(())
     }
 }
 
 impl BenchDisk for Mixed {
     fn cut(&mut self, choice: u8) {
-        if self.pending {
-            if choice % 2 == 1 {
-                let loose = self.loose;
-                self.even = loose;
-            }
-            self.pending = false;
+        if choice % 2 == 1 {
+            self.settle();
         }
+        self.loose = None;
     }
 }

@@ -5,6 +5,7 @@ use crate::tools::{live, play};
 use disk::disk::BenchDisk;
 use precedence::Overlap;
 use std::test::Fail;
+use test_tools::checks::check;
 
 #[test]
 fn all_come_home_after_a_restart(rt: HostRuntime) -> Result<(), Fail> {
@@ -12,17 +13,17 @@ fn all_come_home_after_a_restart(rt: HostRuntime) -> Result<(), Fail> {
     play(
         &mut cache,
         &[
-            (Begin(0, 5), 1),
-            (Finish(1), 2),
-            (Step, 1),
-            (Begin(1, 6), 3),
-            (Finish(3), 4),
-            (Restart(0), 0),
-            (Step, 1),
-            (Step, 2),
-            (Step, 1),
-            (Step, 2),
-            (Home, 2),
+            (Begin(0, 5), Ok(1)),
+            (Finish(1), Ok(2)),
+            (Step, Ok(1)),
+            (Begin(1, 6), Ok(3)),
+            (Finish(3), Ok(4)),
+            (Restart(0), Ok(0)),
+            (Step, Ok(1)),
+            (Step, Ok(2)),
+            (Step, Ok(1)),
+            (Step, Ok(2)),
+            (Home, Ok(2)),
         ],
     )?;
     Ok(())
@@ -35,19 +36,18 @@ fn a_cut_between_the_two(rt: HostRuntime) -> Result<(), Fail> {
     play(
         &mut cache,
         &[
-            (Begin(0, 5), 1),
-            (Begin(1, 6), 2),
-            (Finish(1), 3),
-            (Finish(2), 4),
-            (Step, 1),
-            (Step, 1),
+            (Begin(0, 5), Ok(1)),
+            (Begin(1, 6), Ok(2)),
+            (Finish(1), Ok(3)),
+            (Finish(2), Ok(4)),
+            (Step, Ok(1)),
+            (Step, Ok(1)),
         ],
     )?;
     let mut cold = cache.cut(0);
-    if cold.open().is_err() || !cold.is_accepted() {
-        return Err(Fail::new("not opened"));
-    }
+    cold.open()?;
+    check(cold.is_accepted())?;
     let mut cache = cold.into_live(Overlap);
-    play(&mut cache, &[(Read(0), 5), (Read(1), 6)])?;
+    play(&mut cache, &[(Read(0), Ok(5)), (Read(1), Ok(6))])?;
     Ok(())
 }

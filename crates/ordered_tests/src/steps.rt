@@ -1,10 +1,13 @@
 // Steps, restarts and tallies.
 use crate::tools::Ask::*;
-use crate::tools::{held, live, play, step_fault};
+use crate::tools::{live, play};
 use disk::error::{Fault, Kind};
+use errors::CacheCall;
 use precedence::{Line, Overlap};
 use retry::Retry;
 use std::test::Fail;
+use test_tools::disks::held;
+use test_tools::faults::fault_during;
 
 #[test]
 fn two_versions_of_a_place_come_home_one_by_one(rt: HostRuntime) -> Result<(), Fail> {
@@ -12,17 +15,17 @@ fn two_versions_of_a_place_come_home_one_by_one(rt: HostRuntime) -> Result<(), F
     play(
         &mut cache,
         &[
-            (Step, 0),
-            (Begin(0, 1), 1),
-            (Step, 0),
-            (Finish(1), 2),
-            (Begin(0, 2), 3),
-            (Finish(3), 4),
-            (Step, 1),
-            (Step, 2),
-            (Step, 1),
-            (Step, 2),
-            (Step, 0),
+            (Step, Ok(0)),
+            (Begin(0, 1), Ok(1)),
+            (Step, Ok(0)),
+            (Finish(1), Ok(2)),
+            (Begin(0, 2), Ok(3)),
+            (Finish(3), Ok(4)),
+            (Step, Ok(1)),
+            (Step, Ok(2)),
+            (Step, Ok(1)),
+            (Step, Ok(2)),
+            (Step, Ok(0)),
         ],
     )?;
     Ok(())
@@ -34,14 +37,14 @@ fn by_line_an_open_write_blocks(rt: HostRuntime) -> Result<(), Fail> {
     play(
         &mut cache,
         &[
-            (Begin(0, 1), 1),
-            (Begin(1, 2), 2),
-            (Finish(2), 3),
-            (Step, 3),
-            (Finish(1), 4),
-            (Step, 1),
-            (Step, 2),
-            (Step, 1),
+            (Begin(0, 1), Ok(1)),
+            (Begin(1, 2), Ok(2)),
+            (Finish(2), Ok(3)),
+            (Step, Ok(3)),
+            (Finish(1), Ok(4)),
+            (Step, Ok(1)),
+            (Step, Ok(2)),
+            (Step, Ok(1)),
         ],
     )?;
     Ok(())
@@ -51,21 +54,24 @@ fn by_line_an_open_write_blocks(rt: HostRuntime) -> Result<(), Fail> {
 #[test]
 fn a_fault_leaves_the_table(rt: HostRuntime) -> Result<(), Fail> {
     let mut cache = live(held(rt.alloc(), 2, &[0, 1, 0, 1])?, Overlap)?;
-    play(&mut cache, &[(Begin(1, 1), 1), (Finish(1), 2)])?;
+    play(&mut cache, &[(Begin(1, 1), Ok(1)), (Finish(1), Ok(2))])?;
     let write = Fault {
         kind: Kind::Write,
         place: 1,
         tries: 1,
     };
-    assert_eq!(rt; step_fault(&mut cache), Some(write));
-    play(&mut cache, &[(Waiting, 1), (Step, 1)])?;
+    assert_eq!(rt; fault_during(CacheCall::Step, cache.step()), Some(write));
+    play(&mut cache, &[(Waiting, Ok(1)), (Step, Ok(1))])?;
     let flush = Fault {
         kind: Kind::Flush,
         place: 0,
         tries: 1,
     };
-    assert_eq!(rt; step_fault(&mut cache), Some(flush));
-    play(&mut cache, &[(Sent, 1), (Home, 0), (Step, 2), (Home, 1)])?;
+    assert_eq!(rt; fault_during(CacheCall::Step, cache.step()), Some(flush));
+    play(
+        &mut cache,
+        &[(Sent, Ok(1)), (Home, Ok(0)), (Step, Ok(2)), (Home, Ok(1))],
+    )?;
     Ok(())
 }
 
@@ -75,16 +81,16 @@ fn after_a_restart_sent_writes_wait(rt: HostRuntime) -> Result<(), Fail> {
     play(
         &mut cache,
         &[
-            (Begin(0, 1), 1),
-            (Begin(1, 1), 2),
-            (Begin(2, 1), 3),
-            (Begin(3, 1), 4),
-            (Finish(1), 5),
-            (Finish(2), 6),
-            (Withdraw(3), 0),
-            (Step, 1),
-            (Sent, 1),
-            (Restart(255), 0),
+            (Begin(0, 1), Ok(1)),
+            (Begin(1, 1), Ok(2)),
+            (Begin(2, 1), Ok(3)),
+            (Begin(3, 1), Ok(4)),
+            (Finish(1), Ok(5)),
+            (Finish(2), Ok(6)),
+            (Withdraw(3), Ok(0)),
+            (Step, Ok(1)),
+            (Sent, Ok(1)),
+            (Restart(255), Ok(0)),
         ],
     )?;
     let tally = cache.tally();
@@ -101,13 +107,13 @@ fn after_a_restart_sent_writes_wait(rt: HostRuntime) -> Result<(), Fail> {
 fn two_retry_layers_below(rt: HostRuntime) -> Result<(), Fail> {
     let plan = [0, 1, 1, 1, 1, 1, 1, 1, 1, 1];
     let mut cache = live(Retry::new(Retry::new(held(rt.alloc(), 2, &plan)?)), Overlap)?;
-    play(&mut cache, &[(Begin(1, 1), 1), (Finish(1), 2)])?;
+    play(&mut cache, &[(Begin(1, 1), Ok(1)), (Finish(1), Ok(2))])?;
     let bad = Fault {
         kind: Kind::Write,
         place: 1,
         tries: 9,
     };
-    assert_eq!(rt; step_fault(&mut cache), Some(bad));
-    play(&mut cache, &[(Step, 1)])?;
+    assert_eq!(rt; fault_during(CacheCall::Step, cache.step()), Some(bad));
+    play(&mut cache, &[(Step, Ok(1))])?;
     Ok(())
 }

@@ -1,13 +1,18 @@
 // The acts by which a mark is written, and what is seen of it after a cut.
+use crate::count::{NEW, OLD};
+use crate::trial_error::TrialError;
 use disk::disk::{BLOCK, BenchDisk, Disk};
 use disk::error::DiskError;
 use mark::Mark;
+use memdisk::unusable::Unusable;
+use std::alloc::Global;
 
 // The places of a mark's two blocks.
 pub(crate) const SIDE: usize = 0;
 
 pub(crate) const DISTANCE: usize = 1;
 
+// Acts are values and no closures: one list of them runs on a held disk and on a through disk, and a closure takes one type of disk.
 #[derive(Clone, Copy)]
 pub enum Act {
     Side,
@@ -15,8 +20,11 @@ pub enum Act {
     Flush,
 }
 
+// By these a mark is firm.
+const FIRMLY: [Act; 3] = [Act::Side, Act::Distance, Act::Flush];
+
 impl Act {
-    pub(crate) fn on<D: Disk>(self, disk: &mut D, mark: &Mark) -> Result<(), DiskError> {
+    fn on<D: Disk>(self, disk: &mut D, mark: &Mark) -> Result<(), DiskError> {
         match self {
             Act::Side => disk.write(SIDE, &mark.side_block()),
             Act::Distance => disk.write(DISTANCE, &mark.distance_block()),
@@ -25,29 +33,48 @@ impl Act {
     }
 }
 
-// The mark that storage shows.
-fn seen<D: Disk>(disk: &mut D) -> Result<Mark, DiskError> {
+fn write_by<D: Disk>(disk: &mut D, mark: &Mark, acts: &[Act]) -> Result<(), DiskError> {
+    for act in acts {
+        act.on(disk, mark)?;
+    }
+    Ok(())
+}
+
+// A disk of so many blocks, by this plan, on which the old mark is firm: the plan's first three entries are spent.
+pub(crate) fn old_disk<D: Disk + Drop, F: Fn(Vec<u8>, Vec<u8>) -> Result<D, Unusable>>(
+    heap: Global,
+    make: F,
+    blocks: usize,
+    plan: &[u8],
+) -> Result<D, TrialError>
+    requires { F.IsAlwaysCallable make }
+{
+    let memory = vec![in heap; 0; blocks.saturating_mul(BLOCK)]?;
+    let mut disk = make(memory, plan.to_vec(heap)?)?;
+    write_by(&mut disk, &OLD, &FIRMLY)?;
+    Ok(disk)
+}
+
+// The mark that these reads show.
+pub(crate) fn mark_read<E, F: FnMut(usize, &mut [u8]) -> Result<(), E>>(
+    mut read: F,
+) -> Result<Mark, E>
+    requires { F.IsAlwaysCallable read }
+{
     let mut side = [0; BLOCK];
     let mut distance = [0; BLOCK];
-    disk.read(SIDE, &mut side)?;
-    disk.read(DISTANCE, &mut distance)?;
+    read(SIDE, &mut side)?;
+    read(DISTANCE, &mut distance)?;
     Ok(Mark::from_blocks(&side, &distance))
 }
 
 // The old mark is firm, the acts write the new one, power fails: the mark that is then seen.
 pub(crate) fn seen_after<D: BenchDisk + Drop>(
     mut disk: D,
-    old: &Mark,
-    new: &Mark,
     acts: &[Act],
     choice: u8,
 ) -> Result<Mark, DiskError> {
-    Act::Side.on(&mut disk, old)?;
-    Act::Distance.on(&mut disk, old)?;
-    disk.flush()?;
-    for act in acts {
-        act.on(&mut disk, new)?;
-    }
+    write_by(&mut disk, &NEW, acts)?;
     disk.cut(choice);
-    seen(&mut disk)
+    mark_read(|place, buffer| disk.read(place, buffer))
 }

@@ -2,9 +2,9 @@
 use crate::count::Count;
 use crate::route::Route;
 use crate::trial_error::TrialError;
-
-// The number of a disk's fault, which a drain outlives.
-const FAULT: u8 = 7;
+use disk::error::DiskError;
+use errors::{CacheError, VolumeError};
+use ordered::progress::Progress;
 
 // No drain of the trial is longer.
 const MOST_STEPS: u32 = 32;
@@ -14,9 +14,9 @@ fn make_steps<R: Route>(cache: &mut R, steps: u32) -> Result<u8, TrialError> {
     let mut choices = 1u8;
     for _ in 0..steps {
         choices = match cache.go_on()? {
-            1 => choices.saturating_mul(2),
-            2 => 1,
-            _ => choices,
+            Progress::Written => choices.saturating_mul(2),
+            Progress::Flushed => 1,
+            Progress::Idle | Progress::Blocked => choices,
         };
     }
     Ok(choices)
@@ -26,18 +26,18 @@ fn make_steps<R: Route>(cache: &mut R, steps: u32) -> Result<u8, TrialError> {
 fn after_steps<R: Route + Drop>(rt: &HostRuntime, steps: u32) -> Result<Count, TrialError> {
     let mut cache = R::taken_up(rt.alloc(), &[])?;
     let choices = make_steps(&mut cache, steps)?;
-    let mut count = Count::none();
+    let mut count = Count::default();
     for choice in 0..choices {
         let mut cache = R::taken_up(rt.alloc(), &[])?;
         make_steps(&mut cache, steps)?;
-        count = count.seeing(&cache.seen_after(choice)?);
+        count = count + Count::of(&cache.seen_after(choice)?);
     }
     Ok(count)
 }
 
 // Every cut after every step, a line for each step.
 pub(crate) fn every_cut<R: Route + Drop>(rt: &HostRuntime) -> Result<Count, TrialError> {
-    let mut total = Count::none();
+    let mut total = Count::default();
     for steps in 0..=R::bound(0) {
         let count = after_steps::<R>(rt, steps)?;
         let cuts = count.cuts();
@@ -45,18 +45,17 @@ pub(crate) fn every_cut<R: Route + Drop>(rt: &HostRuntime) -> Result<Count, Tria
         let new = count.new;
         let torn = count.torn;
         println!(rt; "  step {steps}: cuts {cuts}, old {old}, new {new}, torn {torn}")?;
-        total = total.plus(count);
+        total = total + count;
     }
     Ok(total)
 }
 
-// The steps until the cache is idle.
+// The steps until the cache is idle; a disk's fault does not end them.
 fn drained<R: Route>(cache: &mut R) -> Result<u32, TrialError> {
     for steps in 0..MOST_STEPS {
         match cache.go_on() {
-            Ok(0) => return Ok(steps),
-            Ok(_) => {}
-            Err(error) if error.number() == FAULT => {}
+            Ok(Progress::Idle) => return Ok(steps),
+            Ok(_) | Err(CacheError::Volume(_, VolumeError::Disk(DiskError::Fault(_)))) => {}
             Err(error) => return Err(error.into()),
         }
     }

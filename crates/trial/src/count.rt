@@ -1,5 +1,6 @@
 // The marks of the trial, and what was seen of them after the cuts.
 use mark::{Mark, Side, Verdict};
+use std::ops::Add;
 
 pub(crate) const OLD: Mark = Mark {
     side: Side::Downstream,
@@ -11,7 +12,7 @@ pub(crate) const NEW: Mark = Mark {
     millimetres: 400,
 };
 
-#[derive(Clone, Copy)]
+#[derive(Clone, Copy, Default)]
 pub(crate) struct Count {
     pub(crate) old: u32,
     pub(crate) new: u32,
@@ -21,40 +22,30 @@ pub(crate) struct Count {
 }
 
 impl Count {
-    pub(crate) fn none() -> Count {
-        Count {
-            old: 0,
-            new: 0,
-            torn: 0,
-            ahead: 0,
+    // One cut, after which this mark is seen.
+    pub(crate) fn of(seen: &Mark) -> Count {
+        let ahead = seen.millimetres == NEW.millimetres && seen.side != NEW.side;
+        let none = Count::default();
+        match seen.judge(&OLD, &NEW) {
+            Verdict::Old => Count { old: 1, ..none },
+            Verdict::New => Count { new: 1, ..none },
+            Verdict::Torn => Count {
+                torn: 1,
+                ahead: u32::from(ahead),
+                ..none
+            },
         }
     }
 
     pub(crate) fn cuts(&self) -> u32 {
         self.old.saturating_add(self.new).saturating_add(self.torn)
     }
+}
 
-    // One more cut, after which this mark is seen.
-    pub(crate) fn seeing(self, seen: &Mark) -> Count {
-        let ahead = seen.millimetres == NEW.millimetres && seen.side != NEW.side;
-        match seen.judge(&OLD, &NEW) {
-            Verdict::Old => Count {
-                old: self.old.saturating_add(1),
-                ..self
-            },
-            Verdict::New => Count {
-                new: self.new.saturating_add(1),
-                ..self
-            },
-            Verdict::Torn => Count {
-                torn: self.torn.saturating_add(1),
-                ahead: self.ahead.saturating_add(u32::from(ahead)),
-                ..self
-            },
-        }
-    }
+impl Add for Count {
+    type Output = Count;
 
-    pub(crate) fn plus(self, more: Count) -> Count {
+    fn add(self, more: Count) -> Count {
         Count {
             old: self.old.saturating_add(more.old),
             new: self.new.saturating_add(more.new),

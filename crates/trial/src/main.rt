@@ -7,7 +7,7 @@ mod count;
 mod route;
 mod trial_error;
 
-use acts::{Act, seen_after};
+use acts::{Act, old_disk, seen_after};
 use cached::{every_cut, tell_drain};
 use count::{Count, NEW, OLD};
 use disk::disk::BenchDisk;
@@ -15,25 +15,18 @@ use journal::live::Live as JournaledCache;
 use mark::{Mark, Verdict};
 use memdisk::held::HeldDisk;
 use memdisk::through::ThroughDisk;
+use memdisk::unusable::Unusable;
 use ordered::live::Live as OrderedCache;
 use precedence::Overlap;
-use std::alloc::Global;
 use trial_error::TrialError;
+
+// Room for a mark.
+const BLOCKS: usize = 2;
 
 // Three faults on the way: the plan's first entries go into the old mark and the opening, or the format and the recovery.
 const ORDERED_FAULTS: [u8; 8] = [0, 0, 0, 0, 1, 0, 1, 1];
 
 const GROUP_FAULTS: [u8; 11] = [0, 0, 0, 0, 0, 0, 0, 1, 0, 1, 1];
-
-fn held(heap: Global) -> Result<HeldDisk, TrialError> {
-    let disk = HeldDisk::new(vec![in heap; 0; 1024]?, Vec::new(heap))?;
-    Ok(disk)
-}
-
-fn through(heap: Global) -> Result<ThroughDisk, TrialError> {
-    let disk = ThroughDisk::new(vec![in heap; 0; 1024]?, Vec::new(heap))?;
-    Ok(disk)
-}
 
 // Which version of a part of the mark is seen.
 fn version(is_new: bool) -> &'static str {
@@ -41,7 +34,7 @@ fn version(is_new: bool) -> &'static str {
 }
 
 // Tells what a reader believes after this cut, and counts it.
-fn tell(rt: &HostRuntime, choice: u8, seen: &Mark, count: Count) -> Result<Count, TrialError> {
+fn tell(rt: &HostRuntime, choice: u8, seen: &Mark) -> Result<Count, TrialError> {
     let side = version(seen.side == NEW.side);
     let distance = version(seen.millimetres == NEW.millimetres);
     print!(rt; "  cut {choice}: side {side}, distance {distance}: reads {seen}")?;
@@ -50,59 +43,53 @@ fn tell(rt: &HostRuntime, choice: u8, seen: &Mark, count: Count) -> Result<Count
         Verdict::New => println!(rt; ", the new mark")?,
         Verdict::Torn => println!(rt; " for {NEW}, TORN")?,
     }
-    Ok(count.seeing(seen))
+    Ok(Count::of(seen))
 }
 
-// Every cut below `choices` after these acts, each on a held disk of its own.
-fn on_held(
+// Every cut below `choices` after these acts, each on a disk of its own.
+fn on_disk<D: BenchDisk + Drop, F: Fn(Vec<u8>, Vec<u8>) -> Result<D, Unusable>>(
     rt: &HostRuntime,
+    make: F,
     title: &str,
     acts: &[Act],
     choices: u8,
-    count: Count,
-) -> Result<Count, TrialError> {
+) -> Result<Count, TrialError>
+    requires { F.IsAlwaysCallable make }
+{
     println!(rt; "{title}")?;
-    let mut count = count;
+    let mut count = Count::default();
     for choice in 0..choices {
-        let seen = seen_after(held(rt.alloc())?, &OLD, &NEW, acts, choice)?;
-        count = tell(rt, choice, &seen, count)?;
+        let disk = old_disk(rt.alloc(), &make, BLOCKS, &[])?;
+        count = count + tell(rt, choice, &seen_after(disk, acts, choice)?)?;
     }
     Ok(count)
 }
 
-// The same on a through disk, where no write is loose and every choice is the same.
-fn on_through(
-    rt: &HostRuntime,
-    title: &str,
-    acts: &[Act],
-    count: Count,
-) -> Result<Count, TrialError> {
-    println!(rt; "{title}")?;
-    let seen = seen_after(through(rt.alloc())?, &OLD, &NEW, acts, 0)?;
-    tell(rt, 0, &seen, count)
-}
-
-// The bare disks.
+// The bare disks. On a through disk no write is loose, and every choice is the same.
 fn without_cache(rt: &HostRuntime) -> Result<Count, TrialError> {
     let both = [Act::Side, Act::Distance];
     let apart = [Act::Side, Act::Flush, Act::Distance];
     let first = [Act::Side];
-    let count = on_held(rt, "Held disk, both written:", &both, 4, Count::none())?;
-    let count = on_held(rt, "Held disk, a flush between the two:", &apart, 2, count)?;
-    let count = on_held(
-        rt,
-        "Held disk, power fails between the two:",
-        &first,
-        2,
-        count,
-    )?;
-    let count = on_through(rt, "Through disk, both written:", &both, count)?;
-    on_through(
-        rt,
-        "Through disk, power fails between the two:",
-        &first,
-        count,
-    )
+    let held = HeldDisk::new;
+    let through = ThroughDisk::new;
+    let count = on_disk(rt, held, "Held disk, both written:", &both, 4)?
+        + on_disk(rt, held, "Held disk, a flush between the two:", &apart, 2)?
+        + on_disk(
+            rt,
+            held,
+            "Held disk, power fails between the two:",
+            &first,
+            2,
+        )?
+        + on_disk(rt, through, "Through disk, both written:", &both, 1)?
+        + on_disk(
+            rt,
+            through,
+            "Through disk, power fails between the two:",
+            &first,
+            1,
+        )?;
+    Ok(count)
 }
 
 // The caches, each over a held disk.

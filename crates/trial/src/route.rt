@@ -1,15 +1,17 @@
 // The ways of a mark to storage through a cache.
-use crate::acts::{Act, DISTANCE, SIDE};
-use crate::count::{NEW, OLD};
+use crate::acts::{DISTANCE, SIDE, mark_read, old_disk};
+use crate::count::NEW;
 use crate::trial_error::TrialError;
-use disk::disk::{BLOCK, BenchDisk, Disk};
+use disk::disk::BenchDisk;
 use errors::CacheError;
+use group::turn::Progress as GroupProgress;
 use journal::live::Live as JournaledCache;
 use journal_volume::cold::Cold as JournalVolume;
 use mark::Mark;
 use memdisk::held::HeldDisk;
 use ordered::cold::Cold as OrderedVolume;
 use ordered::live::Live as OrderedCache;
+use ordered::progress::Progress;
 use precedence::Overlap;
 use std::alloc::Global;
 
@@ -26,8 +28,7 @@ pub(crate) trait Route {
     // A cache that has taken up the new mark, over a disk with the old one; of the plan's entries some are spent by then.
     fn taken_up(heap: Global, plan: &[u8]) -> Result<Self, TrialError>;
 
-    // A step's number.
-    fn go_on(&mut self) -> Result<u8, CacheError>;
+    fn go_on(&mut self) -> Result<Progress, CacheError>;
 
     // Power fails: what a reader then sees.
     fn seen_after(self, choice: u8) -> Result<Mark, TrialError>;
@@ -36,43 +37,39 @@ pub(crate) trait Route {
     fn bound(faults: u32) -> u32;
 }
 
-// A held disk on which the old mark is firm: the plan's first three entries are spent.
-fn old_disk(heap: Global, plan: &[u8]) -> Result<HeldDisk, TrialError> {
-    let memory = vec![in heap; 0; BLOCKS * BLOCK]?;
-    let mut disk = HeldDisk::new(memory, plan.to_vec(heap)?)?;
-    Act::Side.on(&mut disk, &OLD)?;
-    Act::Distance.on(&mut disk, &OLD)?;
-    Act::Flush.on(&mut disk, &OLD)?;
-    Ok(disk)
+// Has each block of the new mark written in turn: the closure begins and finishes a write of its cache.
+fn write_new<F: FnMut(usize, &[u8]) -> Result<(), CacheError>>(
+    mut write: F,
+) -> Result<(), CacheError>
+    requires { F.IsAlwaysCallable write }
+{
+    write(SIDE, &NEW.side_block())?;
+    write(DISTANCE, &NEW.distance_block())
 }
 
 // The distance is begun after the side was finished.
 impl Route for OrderedCache<HeldDisk, Overlap> {
     fn taken_up(heap: Global, plan: &[u8]) -> Result<OrderedCache<HeldDisk, Overlap>, TrialError> {
-        let mut cold = OrderedVolume::new(old_disk(heap, plan)?);
+        let mut cold = OrderedVolume::new(old_disk(heap, HeldDisk::new, BLOCKS, plan)?);
         cold.open()?;
         let mut cache = cold.into_live(Overlap);
-        let side = cache.begin(SIDE, &NEW.side_block())?;
-        cache.finish(side)?;
-        let distance = cache.begin(DISTANCE, &NEW.distance_block())?;
-        cache.finish(distance)?;
+        write_new(|place, block| {
+            let ticket = cache.begin(place, block)?;
+            cache.finish(ticket)?;
+            Ok(())
+        })?;
         Ok(cache)
     }
 
-    fn go_on(&mut self) -> Result<u8, CacheError> {
-        let progress = self.step()?;
-        Ok(progress.number())
+    fn go_on(&mut self) -> Result<Progress, CacheError> {
+        self.step()
     }
 
     fn seen_after(self, choice: u8) -> Result<Mark, TrialError> {
         let mut cold = self.cut(choice);
         cold.open()?;
         let mut cache = cold.into_live(Overlap);
-        let mut side = [0; BLOCK];
-        let mut distance = [0; BLOCK];
-        cache.read(SIDE, &mut side)?;
-        cache.read(DISTANCE, &mut distance)?;
-        Ok(Mark::from_blocks(&side, &distance))
+        Ok(mark_read(|place, buffer| cache.read(place, buffer))?)
     }
 
     fn bound(faults: u32) -> u32 {
@@ -83,32 +80,32 @@ impl Route for OrderedCache<HeldDisk, Overlap> {
 // Both blocks in one group, sealed.
 impl Route for JournaledCache<HeldDisk> {
     fn taken_up(heap: Global, plan: &[u8]) -> Result<JournaledCache<HeldDisk>, TrialError> {
-        let mut cold = JournalVolume::new(old_disk(heap, plan)?);
+        let mut cold = JournalVolume::new(old_disk(heap, HeldDisk::new, BLOCKS, plan)?);
         cold.format()?;
         cold.recover()?;
         let mut cache = JournaledCache::new(cold);
-        let side = cache.begin(SIDE, &NEW.side_block())?;
-        cache.finish(side)?;
-        let distance = cache.begin(DISTANCE, &NEW.distance_block())?;
-        cache.finish(distance)?;
+        write_new(|place, block| {
+            let ticket = cache.begin(place, block)?;
+            cache.finish(ticket)?;
+            Ok(())
+        })?;
         cache.seal()?;
         Ok(cache)
     }
 
-    fn go_on(&mut self) -> Result<u8, CacheError> {
-        let progress = self.step()?;
-        Ok(progress.number())
+    fn go_on(&mut self) -> Result<Progress, CacheError> {
+        Ok(match self.step()? {
+            GroupProgress::Idle => Progress::Idle,
+            GroupProgress::Written => Progress::Written,
+            GroupProgress::Flushed => Progress::Flushed,
+        })
     }
 
     fn seen_after(self, choice: u8) -> Result<Mark, TrialError> {
         let mut cold = self.cut(choice);
         cold.recover()?;
         let mut cache = JournaledCache::new(cold);
-        let mut side = [0; BLOCK];
-        let mut distance = [0; BLOCK];
-        cache.read(SIDE, &mut side)?;
-        cache.read(DISTANCE, &mut distance)?;
-        Ok(Mark::from_blocks(&side, &distance))
+        Ok(mark_read(|place, buffer| cache.read(place, buffer))?)
     }
 
     fn bound(faults: u32) -> u32 {

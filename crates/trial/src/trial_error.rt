@@ -3,52 +3,23 @@ use errors::{CacheError, VolumeError};
 use memdisk::unusable::Unusable;
 use std::alloc::AllocError;
 use std::io;
+use thiserror::Error;
 
 // What can end a trial early.
-#[derive(Debug, Drop)]
+#[derive(Debug, Drop, Error)]
 pub enum TrialError {
-    Disk(DiskError),
-    Volume(VolumeError),
-    Cache(CacheError),
-    // a drain that goes on and on
+    #[error("the disk refuses: {0:?}")]
+    Disk(#[from] DiskError),
+    #[error("the volume refuses: {0:?}")]
+    Volume(#[from] VolumeError),
+    #[error("the cache refuses: {0:?}")]
+    Cache(#[from] CacheError),
+    #[error("the drain goes on and on")]
     Endless,
-    Unusable(Unusable),
-    Memory,
-    Output(io::Error),
-}
-
-impl From<DiskError> for TrialError {
-    fn from(error: DiskError) -> TrialError {
-        TrialError::Disk(error)
-    }
-}
-
-impl From<VolumeError> for TrialError {
-    fn from(error: VolumeError) -> TrialError {
-        TrialError::Volume(error)
-    }
-}
-
-impl From<CacheError> for TrialError {
-    fn from(error: CacheError) -> TrialError {
-        TrialError::Cache(error)
-    }
-}
-
-impl From<Unusable> for TrialError {
-    fn from(error: Unusable) -> TrialError {
-        TrialError::Unusable(error)
-    }
-}
-
-impl From<AllocError> for TrialError {
-    fn from(_: AllocError) -> TrialError {
-        TrialError::Memory
-    }
-}
-
-impl From<io::Error> for TrialError {
-    fn from(error: io::Error) -> TrialError {
-        TrialError::Output(error)
-    }
+    #[error("no disk can be made of {0:?}")]
+    Unusable(#[from] Unusable),
+    #[error(transparent)]
+    Memory(#[from(alloc)] AllocError),
+    #[error(transparent)]
+    Output(#[from] io::Error),
 }
