@@ -35,6 +35,7 @@ impl Mistake {
     }
 }
 
+// The mistake in words.
 impl fmt::Display for Mistake {
     ghost output = { λ mistake. Some (message_of mistake) };
 
@@ -80,6 +81,7 @@ pub enum AssemblyError {
     NoMemory,
 }
 
+// The error in words, with the line and its mistake.
 impl fmt::Display for AssemblyError {
     ghost output = { λ error. Some (error_text error) };
 

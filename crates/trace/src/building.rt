@@ -14,6 +14,7 @@ pub enum GrowError {
     NoMemory,
 }
 
+// What was refused is dropped.
 impl<T: Drop> From<AllocFailed<T>> for GrowError {
     ghost from_gives = { λ _ e. e ≡ no_memory };
 

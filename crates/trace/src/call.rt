@@ -18,6 +18,7 @@ pub enum Mode {
     Journaled,
 }
 
+// The byte that stands for the mode.
 impl From<Mode> for u8 {
     ghost from_gives = { λ mode byte. byte ≡ mode_byte mode };
 
@@ -30,6 +31,7 @@ impl From<Mode> for u8 {
     }
 }
 
+// The mode that the byte stands for, if it stands for one.
 impl TryFrom<u8> for Mode {
     type Error = DecodeError;
 
@@ -46,6 +48,7 @@ impl TryFrom<u8> for Mode {
 }
 
 // Whether a retry layer stands on the disk, from the number of layers.
+// A function: both types are the library's, and it has no such conversion.
 pub fn flag_from_byte(byte: u8) -> Option<bool>
     ensures { result ≡ flag_of byte }
 {
