@@ -1,7 +1,8 @@
 // Lines and words as parts of the text.
 ghost use Rattle.std.specs.Prelude.{◌≡◌};
 ghost use Rattle.std.specs.Option.{option_map};
-ghost use Rattle.assembly.specs.Words.{is_blank, words, listed, only, both_now};
+ghost use Rattle.assembly.specs.Words.{is_blank, words, listed, only};
+ghost use Rattle.trace.specs.Lent.{both_now};
 
 // Words stand between spaces, tabs and carriage returns.
 fn is_blank(byte: u8) -> bool
