@@ -10,7 +10,7 @@ use Rattle.std.specs.Result.{MatchResult, IsErrAnd}
 use Rattle.std.specs.List.{slice_split, onto_first, enumerate_from}
 use Rattle.std.proofs.lemmas.List.FromFn.{length-enumerate_from, get_or-enumerate_from}
 use Rattle.std.proofs.lemmas.List.{at_drop_more}
-use Rattle.std.proofs.lemmas.Bool.{both_ways, le-leb, lt-leb}
+use Rattle.std.proofs.lemmas.Bool.{both_ways, le-leb}
 use Rattle.trace.specs.declared.call.Mode.TheVariants.{Overlap}
 use Rattle.trace.specs.Building.{bare}
 use Rattle.trace.specs.Format.{Trace}
@@ -65,9 +65,6 @@ from_parts n bs t = go (parts_lines bs)
 pub assembled_within : (text : List ℕ) → length text ≤ 1048576 → from_line 1 (slice_split is_line_end text) (bare Overlap false) ≡ assembled text
 assembled_within text l =
     from_parts 1 text (bare Overlap false) ∙ sym (ap (λ b. cond b (from_line 1 (lines text) (bare Overlap false)) (Err TooLong)) (le-leb (length text) 1048576 l))
-
-pub assembled_past : (text : List ℕ) → 1048576 < length text → assembled text ≡ Err TooLong
-assembled_past text l = ap (λ b. cond b (from_line 1 (lines text) (bare Overlap false)) (Err TooLong)) (lt-leb (length text) 1048576 l)
 
 -- the lines of a text with their indices, as the library's iterators give them
 pub counted_lines : {F : Type 0} {f : F} {s : _} {parts : _} (g : _) (text : List ℕ) → enumerate_source s ≡ parts →

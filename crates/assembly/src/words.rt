@@ -12,6 +12,7 @@ fn is_blank(byte: u8) -> bool
 }
 
 // The first word, and what follows it; none where there is no word.
+// Parts of the line, not an iterator: each function then says what it does by the words of a slice.
 pub(crate) fn first_word(bytes: &[u8]) -> Option<(&[u8], &[u8])>
     ensures { listed (option_map both_now result) ≡ words bytes.now }
 {

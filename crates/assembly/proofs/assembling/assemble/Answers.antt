@@ -1,5 +1,6 @@
 use Rattle.std.proofs.Common.{◌≡◌, ◌+◌, length, Ok, Err, sym, ap, ◌∙◌, is_ok, length-append, arith, rules, tests}
 use Rattle.std.specs.List.{slice_split}
+use Rattle.std.proofs.lemmas.Grind.{common_steps}
 use Rattle.std.proofs.lemmas.List.{drop_all}
 use Rattle.std.proofs.lemmas.Result.{err_from_is_err_and}
 use Rattle.std.proofs.lemmas.Iterator.Consumers.{YieldsList-at, YieldsList-turn, YieldsList-end}
@@ -8,15 +9,15 @@ use Rattle.trace.specs.Traces.{trace_of}
 use Rattle.assembly.specs.declared.mistake.AssemblyError.TheVariants.{TooLong}
 use Rattle.assembly.specs.Words.{is_line_end}
 use Rattle.assembly.specs.Assembled.{from_line, assembled, located_at, Fails, Assembles}
-use Rattle.assembly.proofs.Lining.{counted_lines, numbered, assembled_within, assembled_past, line_taken, line_failed, fails_as}
+use Rattle.assembly.proofs.Lining.{counted_lines, numbered, assembled_within, line_taken, line_failed, fails_as}
 use Rattle.assembly.proofs.Telling.{reads_back}
 use Rattle.assembly.proofs.assembling.assemble.Goals as goal
 
-pub returns-then-text-gt-TEXT_MAX : goal.returns-then-text-gt-TEXT_MAX
-returns-then-text-gt-TEXT_MAX c =
+pub returns-then-text-gt-TEXT_MAX-clause-told : goal.returns-then-text-gt-TEXT_MAX-clause-told
+returns-then-text-gt-TEXT_MAX-clause-told c =
     let text = c.args.text.now in
-    let value : assembled text ≡ Err TooLong = assembled_past text (omega arith) in
-    record { value = value; told = reads_back text (Err TooLong) value }
+    let value : assembled text ≡ Err TooLong = grind (arith, common_steps) in
+    reads_back text (Err TooLong) value
 
 pub loop-i-preserved : goal.loop-i-preserved
 loop-i-preserved c =
