@@ -1,5 +1,5 @@
 ghost use Rattle.std.specs.Prelude.{◌≡◌, ℕ, true};
-ghost use Rattle.disk.specs.Medium.{Medium, Write, Effect, size, Sound, cut};
+ghost use Rattle.disk.specs.Medium.{Medium, Write, Effect, join, size, Sound, cut};
 ghost use Rattle.disk.specs.Calls.{Reads, WritesBy, JoinedOrSettled, Flushes, is_fault};
 
 use crate::error::DiskError;
@@ -48,4 +48,9 @@ pub trait BenchDisk: Disk {
     // Loose write number i, the oldest being 0, stands if bit i of the choice is set; the others vanish.
     fn cut(&mut self, choice: u8)
         ensures { Self.Disk.medium self.new ≡ cut choice (Self.Disk.medium self.old) };
+}
+
+// A bench disk on which every good write joins the loose ones while fewer than eight are.
+pub trait JoiningDisk: BenchDisk {
+    ghost joins: { (d : Self) (w : Write) → Self.Disk.rule d w ≡ join };
 }

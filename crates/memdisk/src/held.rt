@@ -1,4 +1,4 @@
-ghost use Rattle.std.specs.Prelude.{◌≡◌, true, false, MatchResult};
+ghost use Rattle.std.specs.Prelude.{◌≡◌, true, false, MatchResult, refl};
 ghost use Rattle.disk.specs.Medium.{join};
 ghost use Rattle.memdisk.specs.Making.{usable, fresh, Holds};
 ghost use Rattle.memdisk.specs.Parts.{medium_of, held_in, EachFits};
@@ -10,7 +10,7 @@ use crate::loose::{LooseWrite, LooseWrites};
 use crate::parts::parts;
 use crate::plan::{Plan, fault};
 use crate::unusable::Unusable;
-use disk::disk::{BenchDisk, Disk, LOOSE_MAX};
+use disk::disk::{BenchDisk, Disk, JoiningDisk, LOOSE_MAX};
 use disk::error::{DiskError, Kind};
 
 // A disk whose good writes join the loose ones until eight are loose; the ninth settles.
@@ -100,4 +100,8 @@ impl BenchDisk for HeldDisk {
         lay_standing(&mut self.blocks, self.loose.as_slice(), choice);
         self.loose.clear();
     }
+}
+
+impl JoiningDisk for HeldDisk {
+    ghost joins = { λ d w. refl };
 }

@@ -7,7 +7,7 @@ ghost use Rattle.disk.specs.Calls.{is_fault};
 ghost use Rattle.retry.specs.Retried.{retry_medium, tripled};
 ghost use Rattle.retry.specs.Soundness.{retry_sound};
 
-use disk::disk::{BenchDisk, Disk};
+use disk::disk::{BenchDisk, Disk, JoiningDisk};
 use disk::error::{DiskError, Fault, Kind};
 
 // How often a call is made at most.
@@ -109,4 +109,8 @@ impl<D: BenchDisk> BenchDisk for Retry<D> {
     fn cut(&mut self, choice: u8) {
         self.disk.cut(choice);
     }
+}
+
+impl<D: JoiningDisk> JoiningDisk for Retry<D> {
+    ghost joins = { λ r w. D.joins r.disk w };
 }
