@@ -9,11 +9,11 @@ use Rattle.group.specs.Phases.{in_turn}
 use Rattle.group.proofs.Calling.{nth_entry}
 use Rattle.narration.specs.declared.deed.Deed.TheVariants.{Place}
 use Rattle.watch.specs.InJournal.{phase_deed}
-use Rattle.watch.proofs.in_journal.JournalWatch.deed.Goals as goal
+use Rattle.watch.proofs.in_journal.deed.Goals as goal
 
 pub returns-in-Home : goal.returns-in-Home
 returns-in-Home c =
-    let b = c.args.self.now.group in
+    let b = c.args.group.now in
     let i = c.in-Home.i in
     let lt : i < b.count = ltb-true i b.count (subst (λ (p : Phase). in_turn p b.count ≡ true) c.in-Home.is c.requires) in
     let count : length (entries b) ≡ b.count = length-take-le b.count b.rows (omega (arith, b.few, b.full)) in
