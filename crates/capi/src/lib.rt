@@ -8,6 +8,7 @@ use play::output::output;
 use std::alloc::{AllocError, Global};
 use trace::call::Mode;
 
+// The codes are numbers because C reads them.
 // The listing is in the buffer.
 const DONE: u32 = 0;
 // The buffer is too short; the length says what is needed.
@@ -40,7 +41,7 @@ pub fn hecklemaroon_play(heap: Global, input: &[u8], buffer: &mut [u8]) -> Play
             length,
         };
     }
-    buffer[0..length].copy_from_slice(bytes);
+    buffer[..length].copy_from_slice(bytes);
     Play { code: DONE, length }
 }
 

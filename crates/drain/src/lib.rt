@@ -5,6 +5,8 @@ ghost use Rattle.std.specs.Prelude.{◌≡◌, ◌*◌, ◌<◌, ◌≤◌, min,
 ghost use Rattle.std.specs.List.{range_with_len};
 ghost use Rattle.drain.specs.Drains.{drain_call, drain_calls, is_written, drained};
 
+use errors::Progress;
+use listing::answer::Answer;
 use listing::line::Line;
 use play::play::play_list;
 use std::alloc::{AllocError, Global};
@@ -20,7 +22,7 @@ const MARKS: usize = 64;
 // Tickets have two bytes.
 pub const ROUNDS_MAX: u16 = 1000;
 
-// The i-th call of the rounds.
+// The i-th call of the rounds. The casts are proved to lose nothing; a try_from would ask for an answer to numbers that never come.
 fn call_at(i: usize) -> TraceCall
     requires { i < 128000 }
     ensures { result ≡ drain_call i }
@@ -44,32 +46,21 @@ fn calls(heap: Global, rounds: usize) -> Result<Vec<TraceCall>, AllocError>
     requires { rounds ≤ 1000 }
     ensures { IfOk result (λ v. v.items ≡ drain_calls rounds) }
 {
-    let count = ROUND * rounds;
-    let mut calls = Vec::with_capacity(heap, count)?;
-    for i in 0..count {
-        calls.push(call_at(i))?;
-    }
-    Ok(calls)
+    (0..ROUND * rounds).map(call_at).collect(heap)
 }
 
 // Whether the line tells of a step that wrote.
-fn is_written(line: Line) -> bool
-    ensures { result ≡ is_written line }
+fn is_written(line: &Line) -> bool
+    ensures { result ≡ is_written line.now }
 {
-    line.code == 5 && line.answer == 0 && line.value == 1
+    matches!(line.answer, Ok(Answer::Step(Progress::Written)))
 }
 
 // How many of the lines do.
 fn written(lines: &[Line]) -> usize
     ensures { result ≡ length (filter is_written lines.now) }
 {
-    let mut count = 0;
-    for line in lines {
-        if is_written(*line) {
-            count += 1;
-        }
-    }
-    count
+    lines.iter().filter(|line| is_written(line)).count()
 }
 
 // How many writes went to the disk in so many rounds, at most 1,000, on a new cache of the mode.

@@ -16,12 +16,10 @@ use watch::watch::{Watch, deed_of};
 // Tells each call with its line, and with what it wrote.
 fn explain<W: Watch + Drop>(rt: &HostRuntime, trace: &Trace, mut watch: W) -> anyhow::Result<()> {
     let lines = play(rt.alloc(), trace)?;
-    for (call, line) in trace.calls.iter().zip(lines.iter()) {
+    for line in &lines {
         let told = Told {
-            mode: trace.mode,
-            call: *call,
             line: *line,
-            deed: deed_of(&mut watch, *call, *line),
+            deed: deed_of(&mut watch, *line),
         };
         println!(rt; "{told}")?;
     }

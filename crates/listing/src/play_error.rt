@@ -1,11 +1,11 @@
 ghost use Rattle.std.specs.Prelude.{◌≡◌};
-ghost use Rattle.listing.specs.Errors.{from_cache, play_number, play_value};
+ghost use Rattle.listing.specs.Errors.{from_cache, play_number, play_fault, play_value};
 
-use disk::error::DiskError;
-use errors::{CacheError, VolumeError};
+use disk::error::Fault;
+use errors::CacheError;
 
 // Why a call of a trace is refused.
-#[derive(Clone, Copy)]
+#[derive(Clone, Copy, PartialEq, Eq, Debug)]
 pub enum PlayError {
     // only the journaled cache seals
     SealInOrder,
@@ -31,15 +31,20 @@ impl PlayError {
         }
     }
 
+    // The fault of the disk, where the refusal is one.
+    pub fn fault(self) -> Option<Fault>
+        ensures { result ≡ play_fault self }
+    {
+        match self {
+            PlayError::SealInOrder => None,
+            PlayError::Cache(error) => error.fault(),
+        }
+    }
+
     // The tries of a fault; 0 of any other refusal.
     pub fn value(self) -> u32
         ensures { result ≡ play_value self }
     {
-        match self {
-            PlayError::Cache(CacheError::Volume(_, VolumeError::Disk(DiskError::Fault(fault)))) => {
-                fault.tries
-            }
-            _ => 0,
-        }
+        self.fault().map_or(0, |fault| fault.tries)
     }
 }

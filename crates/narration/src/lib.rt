@@ -4,5 +4,5 @@
 mod accepted;
 mod asked;
 pub mod deed;
-mod reason;
+mod refused;
 pub mod told;

@@ -1,4 +1,3 @@
-pub mod Openings
 pub mod Telling
 pub mod Repeating
 pub mod Formatting

@@ -10,9 +10,12 @@ use Rattle.journal_law.specs.Cache.{Live, Outcome, outcome, opened}
 use Rattle.trace.specs.declared.call.TraceCall.{TraceCall}
 use Rattle.trace.specs.declared.call.TraceCall.TheVariants as trace
 use Rattle.trace.specs.Calls.{cut_choice}
+use Rattle.listing.specs.declared.answer.Answer.{Answer}
+use Rattle.listing.specs.declared.answer.Answer.TheVariants.{FirstByte, Recovered as RecoveredAs}
 use Rattle.listing.specs.declared.line.Line.{Line}
 use Rattle.listing.specs.declared.play_error.PlayError.{PlayError}
 use Rattle.listing.specs.declared.play_error.PlayError.TheVariants.{Cache as Refused}
+use Rattle.listing.specs.Answers.{numbered}
 use Rattle.play.specs.Telling.{lines_by}
 
 -- ---- format and recovery, each repeated until accepted
@@ -89,37 +92,37 @@ live_from r = opened (home_blocks r.medium) r.number r.medium
 
 -- ---- calls
 
--- what is told of an answer: a ticket, a mark, a number or a step's answer as it is, and the first byte of a block
-abbrev pub value_of : cache.Answer → Result ℕ PlayError
-value_of (cache.accepted n) = Ok n
-value_of (cache.shown block) = Ok (slice_index block 0)
-value_of (cache.refused e) = Err (Refused e)
+-- what is told of a call's answer: a number as the call has it, and the first byte of a block
+abbrev pub value_of : TraceCall → cache.Answer → Result Answer PlayError
+value_of call (cache.accepted n) = Ok (numbered call n)
+value_of call (cache.shown block) = Ok (FirstByte (slice_index block 0))
+value_of call (cache.refused e) = Err (Refused e)
 
 -- a call's answer, and the cache that it leaves
 pub record Played : Type 0 where
-  pub answer : Result ℕ PlayError
+  pub answer : Result Answer PlayError
   pub live : Live
 
-abbrev pub answered : Result ℕ PlayError → Live → Played
+abbrev pub answered : Result Answer PlayError → Live → Played
 answered r v = record { answer = r; live = v }
 
-abbrev pub valued : Outcome → Played
-valued o = answered (value_of o.answer) o.live
+abbrev pub valued : TraceCall → Outcome → Played
+valued call o = answered (value_of call o.answer) o.live
 
 -- a call on the cache; a begin writes a block of fill bytes
 abbrev pub called : Device → TraceCall → Live → Played
-called device (trace.Begin place fill) v = valued (outcome device v (cache.begin place (replicate 512 fill)))
-called device (trace.Finish ticket) v = valued (outcome device v (cache.finish ticket))
-called device (trace.Withdraw ticket) v = valued (outcome device v (cache.withdraw ticket))
-called device (trace.Read place) v = valued (outcome device v (cache.read place 512))
-called device trace.Step v = valued (outcome device v cache.step)
-called device trace.Seal v = valued (outcome device v cache.seal)
-called device (trace.Restart choice) v = valued (outcome device v (cache.restart choice))
-called device (trace.Cut choice) v = answered (Ok 0) v
+called device (trace.Begin place fill) v = valued (trace.Begin place fill) (outcome device v (cache.begin place (replicate 512 fill)))
+called device (trace.Finish ticket) v = valued (trace.Finish ticket) (outcome device v (cache.finish ticket))
+called device (trace.Withdraw ticket) v = valued (trace.Withdraw ticket) (outcome device v (cache.withdraw ticket))
+called device (trace.Read place) v = valued (trace.Read place) (outcome device v (cache.read place 512))
+called device trace.Step v = valued trace.Step (outcome device v cache.step)
+called device trace.Seal v = valued trace.Seal (outcome device v cache.seal)
+called device (trace.Restart choice) v = valued (trace.Restart choice) (outcome device v (cache.restart choice))
+called device (trace.Cut choice) v = answered (Ok (numbered (trace.Cut choice) 0)) v
 
 -- a cut ends the cache: its volume is recovered, and the number recovered is what is told
 abbrev pub after_cut : Recovered → Played
-after_cut r = answered (Ok r.number) (live_from r)
+after_cut r = answered (Ok (RecoveredAs r.number)) (live_from r)
 
 abbrev pub cut_by : Option ℕ → Played → Played
 cut_by None p = p
@@ -128,7 +131,7 @@ cut_by (Some choice) p = after_cut (recovered_until (cut choice p.live.medium))
 abbrev pub played : Device → TraceCall → Live → Played
 played device call v = cut_by (cut_choice call) (called device call v)
 
-abbrev pub answer_in : Device → TraceCall → Live → Result ℕ PlayError
+abbrev pub answer_in : Device → TraceCall → Live → Result Answer PlayError
 answer_in device call v = (played device call v).answer
 
 abbrev pub left_in : Device → TraceCall → Live → Live

@@ -9,9 +9,12 @@ use Rattle.ordered.specs.Opening.{made}
 use Rattle.trace.specs.declared.call.TraceCall.{TraceCall}
 use Rattle.trace.specs.declared.call.TraceCall.TheVariants as trace
 use Rattle.trace.specs.Calls.{cut_choice}
+use Rattle.listing.specs.declared.answer.Answer.{Answer}
+use Rattle.listing.specs.declared.answer.Answer.TheVariants.{FirstByte, Opened}
 use Rattle.listing.specs.declared.line.Line.{Line}
 use Rattle.listing.specs.declared.play_error.PlayError.{PlayError}
 use Rattle.listing.specs.declared.play_error.PlayError.TheVariants.{SealInOrder, Cache as Refused}
+use Rattle.listing.specs.Answers.{numbered}
 use Rattle.play.specs.Telling.{lines_by}
 
 -- the plan once every bad entry before the first good one is taken
@@ -24,34 +27,34 @@ until_good (bad ∷ es) = until_good es
 abbrev pub opened_until : Medium → Medium
 opened_until m = flushed (record { firm = m.firm; loose = m.loose; plan = until_good m.plan })
 
--- what is told of an answer: a ticket, a mark or a step's answer as it is, and the first byte of a block
-abbrev pub value_of : events.Answer → Result ℕ PlayError
-value_of (events.took n) = Ok n
-value_of (events.shown block) = Ok (slice_index block 0)
-value_of (events.counted n) = Ok 0
-value_of (events.refused e) = Err (Refused e)
+-- what is told of a call's answer: a number as the call has it, and the first byte of a block
+abbrev pub value_of : TraceCall → events.Answer → Result Answer PlayError
+value_of call (events.took n) = Ok (numbered call n)
+value_of call (events.shown block) = Ok (FirstByte (slice_index block 0))
+value_of call (events.counted n) = Ok (numbered call 0)
+value_of call (events.refused e) = Err (Refused e)
 
 -- a call's answer, and the cache that it leaves
 pub record Played : Type 0 where
-  pub answer : Result ℕ PlayError
+  pub answer : Result Answer PlayError
   pub cache : Cache
 
-abbrev pub answered : Result ℕ PlayError → Cache → Played
+abbrev pub answered : Result Answer PlayError → Cache → Played
 answered r c = record { answer = r; cache = c }
 
-abbrev pub valued : Outcome → Played
-valued o = record { answer = value_of o.answer; cache = o.cache }
+abbrev pub valued : TraceCall → Outcome → Played
+valued call o = answered (value_of call o.answer) o.cache
 
 -- A call on the cache. A begin writes a block of fill bytes, and a seal is refused.
 abbrev pub called : Precedence → Device → TraceCall → Cache → Played
-called precedes device (trace.Begin place fill) c = valued (outcome precedes device (events.Begin place (replicate 512 fill)) c)
-called precedes device (trace.Finish ticket) c = valued (outcome precedes device (events.Finish ticket) c)
-called precedes device (trace.Withdraw ticket) c = valued (outcome precedes device (events.Withdraw ticket) c)
-called precedes device (trace.Read place) c = valued (outcome precedes device (events.Read place 512) c)
-called precedes device trace.Step c = valued (outcome precedes device events.Step c)
+called precedes device (trace.Begin place fill) c = valued (trace.Begin place fill) (outcome precedes device (events.Begin place (replicate 512 fill)) c)
+called precedes device (trace.Finish ticket) c = valued (trace.Finish ticket) (outcome precedes device (events.Finish ticket) c)
+called precedes device (trace.Withdraw ticket) c = valued (trace.Withdraw ticket) (outcome precedes device (events.Withdraw ticket) c)
+called precedes device (trace.Read place) c = valued (trace.Read place) (outcome precedes device (events.Read place 512) c)
+called precedes device trace.Step c = valued trace.Step (outcome precedes device events.Step c)
 called precedes device trace.Seal c = answered (Err SealInOrder) c
-called precedes device (trace.Restart choice) c = valued (outcome precedes device (events.Restart choice) c)
-called precedes device (trace.Cut choice) c = answered (Ok 0) c
+called precedes device (trace.Restart choice) c = valued (trace.Restart choice) (outcome precedes device (events.Restart choice) c)
+called precedes device (trace.Cut choice) c = answered (Ok Opened) c
 
 -- a cut ends the cache, and its volume is taken up again
 abbrev pub cut_by : Option ℕ → Cache → Cache
@@ -61,7 +64,7 @@ cut_by (Some choice) c = made (opened_until (cut choice c.medium))
 abbrev pub played : Precedence → Device → TraceCall → Cache → Played
 played precedes device call c = answered (called precedes device call c).answer (cut_by (cut_choice call) (called precedes device call c).cache)
 
-abbrev pub answer_in : Precedence → Device → TraceCall → Cache → Result ℕ PlayError
+abbrev pub answer_in : Precedence → Device → TraceCall → Cache → Result Answer PlayError
 answer_in precedes device call c = (played precedes device call c).answer
 
 abbrev pub left_in : Precedence → Device → TraceCall → Cache → Cache

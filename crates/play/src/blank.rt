@@ -17,8 +17,8 @@ pub(crate) fn blank_held(heap: Global, plan: &[u8]) -> Result<HeldDisk, AllocErr
     ensures { IfOk result (λ d. medium_of d.blocks (held_in d.loose) d.plan ≡ blank_disk plan.now) }
 {
     let memory = vec![in heap; 0; BLOCKS * BLOCK]?;
-    match HeldDisk::new(memory, Vec::from_slice(heap, plan)?) {
-        Ok(disk) => Ok(disk),
-        Err(_) => unreachable(),
-    }
+    let Ok(disk) = HeldDisk::new(memory, Vec::from_slice(heap, plan)?) else {
+        unreachable()
+    };
+    Ok(disk)
 }

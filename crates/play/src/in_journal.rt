@@ -1,79 +1,85 @@
 // Plays the calls of a trace on the journaled cache.
-ghost use Rattle.std.specs.Prelude.{◌≡◌, ◌++◌, OnOk};
-ghost use Rattle.disk.specs.Medium.{Write, join};
+ghost use Rattle.std.specs.Prelude.{◌≡◌, ◌≤◌, refl};
+ghost use Rattle.disk.specs.Medium.{join, size};
 ghost use Rattle.journal.specs.Model.{model};
-ghost use Rattle.play.specs.InJournal.{answered, called, lines_from};
+ghost use Rattle.play.specs.InJournal.{formatted_until, recovered_until, live_from, answered, called, lines_from};
 ghost use Rattle.play.specs.Histories.{Running};
 
-use crate::volumes::recover_until;
-use disk::disk::{BLOCK, BenchDisk};
+use crate::player::Player;
+use crate::volumes::{format_until, recover_until};
+use disk::disk::{BLOCK, JoiningDisk};
 use journal::live::Live;
+use journal_volume::cold::Cold;
+use listing::answer::Answer;
 use listing::line::Line;
 use listing::play_error::PlayError;
-use std::alloc::AllocError;
 use trace::call::TraceCall;
 
-// What a call answers that goes on with the cache. A cut is answered 0; whoever plays it recovers the volume.
-fn answer_to<D: BenchDisk>(live: &mut Live<D>, call: TraceCall) -> Result<u32, PlayError>
-    requires { (d : D) (w : Write) → D.Disk.rule d w ≡ join }
+// A journaled cache over a disk that is formatted and recovered.
+pub(crate) fn journaled<D: JoiningDisk>(disk: D) -> Live<D>
+    requires room { 10 ≤ size (D.Disk.medium disk) }
+    ensures after { model D.Disk.medium result ≡ live_from (recovered_until (formatted_until D.Disk.attempts (D.Disk.medium disk))) }
+    ensures running { Running (model D.Disk.medium result) }
+{
+    let mut volume = Cold::new(disk);
+    format_until(&mut volume);
+    let _ = recover_until(&mut volume);
+    Live::new(volume)
+}
+
+// What a call answers that goes on with the cache. After a cut, whoever plays it recovers the volume and answers by the number.
+fn answer_to<D: JoiningDisk>(live: &mut Live<D>, call: TraceCall) -> Result<Answer, PlayError>
     ensures { answered result (model D.Disk.medium live.new) ≡ called (record { effect = join; tries = D.Disk.attempts }) call (model D.Disk.medium live.old) }
 {
     match call {
         TraceCall::Begin { place, fill } => {
             let ticket = live.begin(usize::from(place), &[fill; BLOCK])?;
-            Ok(ticket)
+            Ok(Answer::Ticket(ticket))
         }
         TraceCall::Finish { ticket } => {
             let mark = live.finish(u32::from(ticket))?;
-            Ok(mark)
+            Ok(Answer::Mark(mark))
         }
         TraceCall::Withdraw { ticket } => {
             live.withdraw(u32::from(ticket))?;
-            Ok(0)
+            Ok(Answer::Withdrawn)
         }
         TraceCall::Read { place } => {
             let mut buffer = [0; BLOCK];
             live.read(usize::from(place), &mut buffer)?;
-            Ok(u32::from(buffer[0]))
+            Ok(Answer::FirstByte(buffer[0]))
         }
         TraceCall::Step => {
             let progress = live.step()?;
-            Ok(u32::from(progress.number()))
+            Ok(Answer::Step(progress))
         }
         TraceCall::Seal => {
             let number = live.seal()?;
-            Ok(number)
+            Ok(Answer::Group(number))
         }
         TraceCall::Restart { choice } => {
             live.restart(choice);
-            Ok(0)
+            Ok(Answer::Restarted)
         }
-        TraceCall::Cut { choice: _ } => Ok(0),
+        TraceCall::Cut { choice: _ } => Ok(Answer::Opened),
     }
 }
 
-// Plays the calls over a disk whose writes join, and adds a line for each.
-pub(crate) fn play_calls<D: BenchDisk + Drop>(
-    live: Live<D>,
-    calls: &[TraceCall],
-    lines: &mut Vec<Line>,
-) -> Result<(), AllocError>
-    requires joins { (d : D) (w : Write) → D.Disk.rule d w ≡ join }
-    requires running { Running (model D.Disk.medium live) }
-    ensures { OnOk result (lines.new.items ≡ lines.old.items ++ lines_from (record { effect = join; tries = D.Disk.attempts }) (model D.Disk.medium live) calls.now) }
-{
-    let mut live = live;
-    for call in calls {
-        let mut answer = answer_to(&mut live, *call);
-        match call.cut_choice() {
-            Some(choice) => {
-                let mut cold = live.cut(choice);
-                answer = Ok(recover_until(&mut cold));
-                live = Live::new(cold);
-            }
-            None => {}
+impl<D: JoiningDisk + Drop> Player for Live<D> {
+    ghost Fit = { λ live. Running (model D.Disk.medium live) };
+
+    ghost lines = { λ live calls. lines_from (record { effect = join; tries = D.Disk.attempts }) (model D.Disk.medium live) calls };
+
+    fn play(self, call: TraceCall) -> (Live<D>, Line) {
+        let mut live = self;
+        let mut answer = answer_to(&mut live, call);
+        if let Some(choice) = call.cut_choice() {
+            let mut cold = live.cut(choice);
+            answer = Ok(Answer::Recovered(recover_until(&mut cold)));
+            live = Live::new(cold);
         }
-        lines.push(Line::new(*call, answer))?;
+        (live, Line { call, answer })
     }
-    Ok(())
+
+    ghost ends = { λ live. refl };
 }

@@ -1,20 +1,40 @@
 // Plays the calls of a trace on the ordered cache.
-ghost use Rattle.std.specs.Prelude.{◌≡◌, ◌+◌, ◌≤◌, true, ◌++◌, length, vec_len, vec_capacity, OnOk};
-ghost use Rattle.disk.specs.Medium.{Write, join};
+ghost use Rattle.std.specs.Prelude.{◌≡◌, true, refl};
+ghost use Rattle.disk.specs.Medium.{join};
 ghost use Rattle.ordered.specs.Model.{model};
 ghost use Rattle.ordered.specs.Opening.{made as made_over};
-ghost use Rattle.play.specs.InOrder.{opened_until, answered, called, lines_from, ordered_lines};
+ghost use Rattle.play.specs.InOrder.{opened_until, answered, called, lines_from};
 
-use disk::disk::{BLOCK, BenchDisk};
+use crate::player::Player;
+use disk::disk::{BLOCK, BenchDisk, JoiningDisk};
+use listing::answer::Answer;
 use listing::line::Line;
 use listing::play_error::PlayError;
 use ordered::cold::Cold;
 use ordered::live::Live;
 use precedence::Precedence;
-use std::alloc::{AllocError, Global};
 use trace::call::TraceCall;
 
+// A live cache, and the precedence that it keeps.
+#[derive(Drop)]
+pub(crate) struct InOrder<D, P> {
+    live: Live<D, P>,
+    order: P,
+}
+
+// An ordered cache over a disk that is opened.
+pub(crate) fn in_order<D: BenchDisk, P: Precedence + Copy>(disk: D, order: P) -> InOrder<D, P>
+    ensures after { model D.Disk.medium result.live ≡ made_over (opened_until (D.Disk.medium disk)) }
+    ensures order { (result.order ≡ order) × (result.live.order ≡ order) }
+{
+    InOrder {
+        live: taken_up(Cold::new(disk), order),
+        order,
+    }
+}
+
 // Opens the volume, again and again until its flush is good: each that fails takes an entry off the plan.
+// A loop of one line, as for format and recovery: a shared one would take the call as a closure with the law of its tries.
 fn open_until<D: BenchDisk>(cold: &mut Cold<D>)
     ensures after { D.Disk.medium cold.new.disk ≡ opened_until (D.Disk.medium cold.old.disk) }
     ensures accepted { cold.new.accepted ≡ true }
@@ -23,7 +43,7 @@ fn open_until<D: BenchDisk>(cold: &mut Cold<D>)
 }
 
 // A live cache over a volume that is taken up cold.
-pub(crate) fn taken_up<D: BenchDisk, P: Precedence>(mut cold: Cold<D>, order: P) -> Live<D, P>
+fn taken_up<D: BenchDisk, P: Precedence>(mut cold: Cold<D>, order: P) -> Live<D, P>
     ensures after { model D.Disk.medium result ≡ made_over (opened_until (D.Disk.medium cold.disk)) }
     ensures order { result.order ≡ order }
 {
@@ -31,65 +51,59 @@ pub(crate) fn taken_up<D: BenchDisk, P: Precedence>(mut cold: Cold<D>, order: P)
     cold.into_live(order)
 }
 
-// What a call answers that goes on with the cache. A cut is answered 0; whoever plays it takes the volume up again.
-fn answer_to<D: BenchDisk, P: Precedence>(
+// What a call answers that goes on with the cache. After a cut, whoever plays it takes the volume up again.
+// The journaled cache's is another function: a trait of the calls of both would state the seven contracts of a cache once more, which is longer than these arms.
+fn answer_to<D: JoiningDisk, P: Precedence>(
     live: &mut Live<D, P>,
     call: TraceCall,
-) -> Result<u32, PlayError>
-    requires { (d : D) (w : Write) → D.Disk.rule d w ≡ join }
+) -> Result<Answer, PlayError>
     ensures outcome { answered result (model D.Disk.medium live.new) ≡ called (P.before live.old.order) (record { rule = join; tries = D.Disk.attempts }) call (model D.Disk.medium live.old) }
     ensures order { live.new.order ≡ live.old.order }
 {
     match call {
         TraceCall::Begin { place, fill } => {
             let ticket = live.begin(usize::from(place), &[fill; BLOCK])?;
-            Ok(ticket)
+            Ok(Answer::Ticket(ticket))
         }
         TraceCall::Finish { ticket } => {
             let mark = live.finish(u32::from(ticket))?;
-            Ok(mark)
+            Ok(Answer::Mark(mark))
         }
         TraceCall::Withdraw { ticket } => {
             live.withdraw(u32::from(ticket))?;
-            Ok(0)
+            Ok(Answer::Withdrawn)
         }
         TraceCall::Read { place } => {
             let mut buffer = [0; BLOCK];
             live.read(usize::from(place), &mut buffer)?;
-            Ok(u32::from(buffer[0]))
+            Ok(Answer::FirstByte(buffer[0]))
         }
         TraceCall::Step => {
             let progress = live.step()?;
-            Ok(u32::from(progress.number()))
+            Ok(Answer::Step(progress))
         }
         TraceCall::Seal => Err(PlayError::SealInOrder),
         TraceCall::Restart { choice } => {
             live.restart(choice);
-            Ok(0)
+            Ok(Answer::Restarted)
         }
-        TraceCall::Cut { choice: _ } => Ok(0),
+        TraceCall::Cut { choice: _ } => Ok(Answer::Opened),
     }
 }
 
-// Plays the calls over a disk whose writes join, and adds a line for each.
-pub(crate) fn play_calls<D: BenchDisk + Drop, P: Precedence + Copy + Drop>(
-    live: Live<D, P>,
-    order: P,
-    calls: &[TraceCall],
-    lines: &mut Vec<Line>,
-) -> Result<(), AllocError>
-    requires joins { (d : D) (w : Write) → D.Disk.rule d w ≡ join }
-    requires order { live.order ≡ order }
-    ensures { OnOk result (lines.new.items ≡ lines.old.items ++ lines_from (P.before order) (record { rule = join; tries = D.Disk.attempts }) (model D.Disk.medium live) calls.now) }
-{
-    let mut live = live;
-    for call in calls {
-        let answer = answer_to(&mut live, *call);
-        match call.cut_choice() {
-            Some(choice) => live = taken_up(live.cut(choice), order),
-            None => {}
+impl<D: JoiningDisk + Drop, P: Precedence + Copy + Drop> Player for InOrder<D, P> {
+    ghost Fit = { λ p. p.live.order ≡ p.order };
+
+    ghost lines = { λ p calls. lines_from (P.Precedence.before p.order) (record { rule = join; tries = D.Disk.attempts }) (model D.Disk.medium p.live) calls };
+
+    fn play(self, call: TraceCall) -> (InOrder<D, P>, Line) {
+        let InOrder { mut live, order } = self;
+        let answer = answer_to(&mut live, call);
+        if let Some(choice) = call.cut_choice() {
+            live = taken_up(live.cut(choice), order);
         }
-        lines.push(Line::new(*call, answer))?;
+        (InOrder { live, order }, Line { call, answer })
     }
-    Ok(())
+
+    ghost ends = { λ p. refl };
 }

@@ -7,4 +7,5 @@ mod in_order;
 mod on_disk;
 pub mod output;
 pub mod play;
+mod player;
 mod volumes;

@@ -3,5 +3,4 @@
 
 pub mod in_journal;
 pub mod in_order;
-pub mod journal_calls;
 pub mod watch;

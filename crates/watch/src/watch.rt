@@ -1,8 +1,10 @@
-ghost use Rattle.std.specs.Prelude.{◌≡◌, ℕ, if◌then◌else◌, ◌≢◌, nat_eq};
+ghost use Rattle.std.specs.Prelude.{◌≡◌, MatchResult};
 ghost use Rattle.trace.specs.declared.call.TraceCall.{TraceCall as Called};
+ghost use Rattle.listing.specs.declared.answer.Answer.{Answer as Answered};
 ghost use Rattle.narration.specs.declared.deed.Deed.{Deed as Told};
 ghost use Rattle.narration.specs.declared.deed.Deed.TheVariants.{Unseen};
 
+use listing::answer::Answer;
 use listing::line::Line;
 use narration::deed::Deed;
 use trace::call::TraceCall;
@@ -10,26 +12,24 @@ use trace::call::TraceCall;
 // Follows a cache by the calls that it accepted, and their answers.
 pub trait Watch {
     // what an accepted call with this answer wrote
-    ghost deed: { Self → Called → ℕ → Told };
+    ghost deed: { Self → Called → Answered → Told };
 
     // the watch after that call
-    ghost moves: { Self → Called → ℕ → Self → Type 0 };
+    ghost moves: { Self → Called → Answered → Self → Type 0 };
 
     // One more accepted call.
-    fn note(&mut self, call: TraceCall, value: u32) -> Deed
-        ensures told { result ≡ deed self.old call value }
-        ensures after { moves self.old call value self.new };
+    fn note(&mut self, call: TraceCall, answer: Answer) -> Deed
+        ensures told { result ≡ deed self.old call answer }
+        ensures after { moves self.old call answer self.new };
 }
 
 // What the call of a line wrote. A refused call changes nothing.
-pub fn deed_of<W: Watch>(watch: &mut W, call: TraceCall, line: Line) -> Deed
-    ensures told { result ≡ (if nat_eq line.answer 0 then W.deed watch.old call line.value else Unseen) }
-    ensures accepted { line.answer ≡ 0 → W.moves watch.old call line.value watch.new }
-    ensures refused { (line.answer ≢ 0) → watch.new ≡ watch.old }
+pub fn deed_of<W: Watch>(watch: &mut W, line: Line) -> Deed
+    ensures told { MatchResult line.answer (λ a. result ≡ W.deed watch.old line.call a) (λ _. result ≡ Unseen) }
+    ensures after { MatchResult line.answer (λ a. W.moves watch.old line.call a watch.new) (λ _. watch.new ≡ watch.old) }
 {
-    if line.answer == 0 {
-        watch.note(call, line.value)
-    } else {
-        Deed::Unseen
+    match line.answer {
+        Ok(answer) => watch.note(line.call, answer),
+        Err(_) => Deed::Unseen,
     }
 }

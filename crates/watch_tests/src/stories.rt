@@ -21,12 +21,10 @@ fn tells<W: Watch + Drop>(
     if lines.len() != story.len() {
         return Err(Fail::new("a line for each call"));
     }
-    for ((call, line), expected) in calls.iter().zip(lines.iter()).zip(story.iter()) {
+    for (line, expected) in lines.iter().zip(story.iter()) {
         let told = Told {
-            mode,
-            call: *call,
             line: *line,
-            deed: deed_of(&mut watch, *call, *line),
+            deed: deed_of(&mut watch, *line),
         };
         let text = format!(in heap; "{told}")?;
         if text.as_str() != *expected {

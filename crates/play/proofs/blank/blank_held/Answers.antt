@@ -1,5 +1,4 @@
 use Rattle.std.proofs.Common.{◌≡◌, ℕ, true, false, vec_items, sym, ap, ◌∙◌, arith}
-use Rattle.std.proofs.lemmas.Result.{err_from_is_err_and}
 use Rattle.memdisk.specs.Making.{usable, fresh}
 use Rattle.play.proofs.Usable.{usable_blank}
 use Rattle.play.proofs.blank.blank_held.Goals as goal
@@ -8,12 +7,9 @@ pub unreachable-requires : goal.unreachable-requires
 unreachable-requires c =
     let zeros = c.in_ok-memory.ensures.items_if_clones_equal (λ y e. e) in
     let copied = c.in_ok-from_slice.ensures.items in
-    let both : true ≡ false = sym (usable_blank c.args.plan.now c.requires) ∙ sym (ap (λ m. usable m c.args.plan.now) zeros) ∙ sym (ap (usable (vec_items c.in_ok-memory.memory)) copied) ∙ c.in-Err.ensures.0 in
+    let both : true ≡ false = sym (usable_blank c.args.plan.now c.requires) ∙ sym (ap (λ m. usable m c.args.plan.now) zeros) ∙ sym (ap (usable (vec_items c.in_ok-memory.memory)) copied) ∙ c.in_default.ensures.0 in
     let z : ◌≡◌ {A = ℕ} 0 1 = cc in
     omega arith
-
-pub returns-in_err-from_slice : goal.returns-in_err-from_slice
-returns-in_err-from_slice c = let p = err_from_is_err_and c.from_residual-in_err-from_slice.result c.from_residual-in_err-from_slice.ensures.1 in rw p.1 tt
 
 pub returns : goal.returns
 returns c =

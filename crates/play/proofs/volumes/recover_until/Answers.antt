@@ -10,8 +10,8 @@ pub loop-number-preserved : goal.loop-number-preserved
 loop-number-preserved g c =
     let m = g.D.Disk.medium c.loop-number.cold.disk in
     let n = g.D.Disk.medium c.recover.new.self.disk in
-    let told = c.in-Err.ensures.fixed (recoverable_room m c.loop-number.invariant.0) join c.requires.joins in
-    let broke = broken_off g.D.Disk.attempts m n c.in-Err.field-0 c.loop-number.invariant.0 c.in-Err.ensures.restores told in (
+    let told = c.in_default.ensures.fixed (recoverable_room m c.loop-number.invariant.0) join g.met.D.JoiningDisk.joins in
+    let broke = broken_off g.D.Disk.attempts m n c.in_default.field-0 c.loop-number.invariant.0 c.in_default.ensures.restores told in (
       broke.0,
       ap recovered_until told.leaves
           ∙ goes_on recovery_breaks recovery_leaves recovered_from (λ _. Unit {0}) (λ k h e. (recovery_shorter k e, tt)) m tt broke.1
@@ -22,15 +22,15 @@ pub loop-number-smaller : goal.loop-number-smaller
 loop-number-smaller g c =
     let m = g.D.Disk.medium c.loop-number.cold.disk in
     let n = g.D.Disk.medium c.recover.new.self.disk in
-    let told = c.in-Err.ensures.fixed (recoverable_room m c.loop-number.invariant.0) join c.requires.joins in
-    let broke = broken_off g.D.Disk.attempts m n c.in-Err.field-0 c.loop-number.invariant.0 c.in-Err.ensures.restores told in
+    let told = c.in_default.ensures.fixed (recoverable_room m c.loop-number.invariant.0) join g.met.D.JoiningDisk.joins in
+    let broke = broken_off g.D.Disk.attempts m n c.in_default.field-0 c.loop-number.invariant.0 c.in_default.ensures.restores told in
     subst (λ (k : Medium). length k.plan < length m.plan) (sym told.leaves) (recovery_shorter m broke.1)
 
 pub returns-in-Ok : goal.returns-in-Ok
 returns-in-Ok g c =
     let m = g.D.Disk.medium c.loop-number.cold.disk in
     let n = g.D.Disk.medium c.recover.new.self.disk in
-    let told = c.in-Ok.ensures.fixed (recoverable_room m c.loop-number.invariant.0) join c.requires.joins in
+    let told = c.in-Ok.ensures.fixed (recoverable_room m c.loop-number.invariant.0) join g.met.D.JoiningDisk.joins in
     let done = accepted_as g.D.Disk.attempts m n c.in-Ok.number told in
     record {
       until = done.1 ∙ ends recovery_breaks recovery_leaves recovered_from (λ _. Unit {0}) (λ k h e. (recovery_shorter k e, tt)) m done.0 ∙ c.loop-number.invariant.1;

@@ -1,6 +1,6 @@
 use Rattle.journal.specs.Model.{model}
 use Rattle.play.proofs.Keeping.{starts_running}
-use Rattle.play.proofs.on_disk.journaled.Goals as goal
+use Rattle.play.proofs.in_journal.journaled.Goals as goal
 
 pub returns-clause-running : goal.returns-clause-running
 returns-clause-running g c =
