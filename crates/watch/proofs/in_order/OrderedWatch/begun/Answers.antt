@@ -1,4 +1,4 @@
-use Rattle.std.proofs.Common.{Bool, cond, set, replicate, sym, ap, ◌∙◌, Some}
+use Rattle.std.proofs.Common.{Bool, Some, cond, set, replicate, sym, ap, ◌∙◌}
 use Rattle.table.specs.declared.held.Version.{Version}
 use Rattle.table.specs.Versions.{begun}
 use Rattle.table.specs.Rows.{put}
