@@ -15,15 +15,12 @@ use errors::{CacheCall, CacheError, during};
 impl<D: BenchDisk> Live<D> {
     // The bytes that the cache itself holds for the place.
     fn cached(&self, place: usize) -> Option<&[u8; BLOCK]>
-        ensures { maybe (option_map (λ b. b.now) result) ≡ cached place (write_list self.now.collected ++ group_writes (under_way self.now.group self.now.phase)) }
+        ensures { maybe (option_map (λ b. b.now) result) ≡ cached place (write_list self.now.collected ++ group_writes (under_way self.now.group)) }
     {
         if let Some(bytes) = self.collected.bytes_at(place) {
             return Some(bytes);
         }
-        if self.phase.is_some() {
-            return self.group.writes.bytes_at(place);
-        }
-        None
+        self.group.as_ref()?.writes.bytes_at(place)
     }
 
     // Fills the buffer with the place's block; a refusal leaves the buffer.
