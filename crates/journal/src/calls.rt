@@ -52,6 +52,7 @@ impl<D: BenchDisk> Live<D> {
         if self.places_with(place) > MOST_PLACES {
             return Err(CacheError::NoRoom);
         }
+        // At most eight writes are open, so that their number fits a mark.
         if self.counter + self.opens.len() as u32 + 2 > LAST_MARK {
             return Err(CacheError::NoMarks);
         }

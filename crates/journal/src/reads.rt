@@ -29,6 +29,7 @@ impl<D: BenchDisk> Live<D> {
         ensures buffer { buffer.new ≡ filled buffer.old (does D.Disk.medium D.Disk.rule D.Disk.attempts self.old (read_call place (length buffer.old))).answer }
         ensures runs { RunsOn (read_call place (length buffer.old)) (model D.Disk.medium self.old) (read_as result buffer.new) (model D.Disk.medium self.new) }
     {
+        // The disk fills a slice, so that its length is tested, and no block made of it.
         if buffer.len() != BLOCK {
             return Err(CacheError::Length);
         }
