@@ -21,6 +21,7 @@ impl<D: BenchDisk, P: Precedence> Live<D, P> {
         ensures order { self.new.order ≡ self.old.order }
         ensures runs { RunsOn (P.before self.old.order) (Read place (length buffer.old)) (model D.Disk.medium self.old) (read_as result buffer.new) (model D.Disk.medium self.new) }
     {
+        // A test, and no array by `try_from`: nothing below names the block by its type.
         if buffer.len() != BLOCK {
             return Err(CacheError::Length);
         }
