@@ -212,7 +212,6 @@ abbrev pub under_at : CodeGroup → Option Phase → Maybe Group
 under_at G None = none
 under_at G (Some p) = some (group_at G p)
 
-
 abbrev turn_or : Turn → Result Turn CacheError → Turn
 turn_or d (Ok t) = t
 turn_or d (Err e) = d
