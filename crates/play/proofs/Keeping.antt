@@ -12,7 +12,8 @@ use Rattle.trace.specs.declared.call.TraceCall.{TraceCall}
 use Rattle.trace.specs.declared.call.TraceCall.TheVariants as trace
 use Rattle.listing.specs.declared.answer.Answer.{Answer}
 use Rattle.listing.specs.declared.play_error.PlayError.{PlayError}
-use Rattle.play.specs.InJournal.{Played, answered, called}
+use Rattle.play.specs.InJournal.{called}
+use Rattle.play.specs.Telling.{Played, answered}
 use Rattle.play.specs.Histories.{Running}
 
 -- one more call
@@ -26,7 +27,7 @@ calls_on device v call r = record {
   ran = one_more r.ran device call;
 }
 
-called_runs : (device : Device) (call : TraceCall) (v : Live) → Running v → Running (called device call v).live
+called_runs : (device : Device) (call : TraceCall) (v : Live) → Running v → Running (called device call v).left
 called_runs device (trace.Begin place fill) v r = calls_on device v (cache.begin place (replicate 512 fill)) r
 called_runs device (trace.Finish ticket) v r = calls_on device v (cache.finish ticket) r
 called_runs device (trace.Withdraw ticket) v r = calls_on device v (cache.withdraw ticket) r
@@ -38,7 +39,7 @@ called_runs device (trace.Cut choice) v r = r
 
 -- a call that was answered and led to w
 pub runs_on : (device : Device) (call : TraceCall) (v w : Live) (a : Result Answer PlayError) → answered a w ≡ called device call v → Running v → Running w
-runs_on device call v w a did r = subst Running (sym (ap (λ (p : Played). p.live) did)) (called_runs device call v r)
+runs_on device call v w a did r = subst Running (sym (ap (λ (p : Played Live). p.left) did)) (called_runs device call v r)
 
 -- a cache that was made over a recovered volume runs
 pub starts_running : (accepted : Option ℕ) (k : ℕ) (m : Medium) (v : Live) → Starts accepted m v → accepted ≡ with_number k → JustRecovered (home_blocks m) k m → Running v

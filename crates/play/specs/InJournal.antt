@@ -16,7 +16,7 @@ use Rattle.listing.specs.declared.line.Line.{Line}
 use Rattle.listing.specs.declared.play_error.PlayError.{PlayError}
 use Rattle.listing.specs.declared.play_error.PlayError.TheVariants.{Cache as Refused}
 use Rattle.listing.specs.Answers.{numbered}
-use Rattle.play.specs.Telling.{lines_by}
+use Rattle.play.specs.Telling.{Played, answered, lines_by}
 
 -- ---- format and recovery, each repeated until accepted
 
@@ -98,19 +98,11 @@ value_of call (cache.accepted n) = Ok (numbered call n)
 value_of call (cache.shown block) = Ok (FirstByte (slice_index block 0))
 value_of call (cache.refused e) = Err (Refused e)
 
--- a call's answer, and the cache that it leaves
-pub record Played : Type 0 where
-  pub answer : Result Answer PlayError
-  pub live : Live
-
-abbrev pub answered : Result Answer PlayError → Live → Played
-answered r v = record { answer = r; live = v }
-
-abbrev pub valued : TraceCall → Outcome → Played
+abbrev pub valued : TraceCall → Outcome → Played Live
 valued call o = answered (value_of call o.answer) o.live
 
 -- a call on the cache; a begin writes a block of fill bytes
-abbrev pub called : Device → TraceCall → Live → Played
+abbrev pub called : Device → TraceCall → Live → Played Live
 called device (trace.Begin place fill) v = valued (trace.Begin place fill) (outcome device v (cache.begin place (replicate 512 fill)))
 called device (trace.Finish ticket) v = valued (trace.Finish ticket) (outcome device v (cache.finish ticket))
 called device (trace.Withdraw ticket) v = valued (trace.Withdraw ticket) (outcome device v (cache.withdraw ticket))
@@ -121,25 +113,19 @@ called device (trace.Restart choice) v = valued (trace.Restart choice) (outcome 
 called device (trace.Cut choice) v = answered (Ok (numbered (trace.Cut choice) 0)) v
 
 -- a cut ends the cache: its volume is recovered, and the number recovered is what is told
-abbrev pub after_cut : Recovered → Played
+abbrev pub after_cut : Recovered → Played Live
 after_cut r = answered (Ok (RecoveredAs r.number)) (live_from r)
 
-abbrev pub cut_by : Option ℕ → Played → Played
+abbrev pub cut_by : Option ℕ → Played Live → Played Live
 cut_by None p = p
-cut_by (Some choice) p = after_cut (recovered_until (cut choice p.live.medium))
+cut_by (Some choice) p = after_cut (recovered_until (cut choice p.left.medium))
 
-abbrev pub played : Device → TraceCall → Live → Played
+abbrev pub played : Device → TraceCall → Live → Played Live
 played device call v = cut_by (cut_choice call) (called device call v)
-
-abbrev pub answer_in : Device → TraceCall → Live → Result Answer PlayError
-answer_in device call v = (played device call v).answer
-
-abbrev pub left_in : Device → TraceCall → Live → Live
-left_in device call v = (played device call v).live
 
 -- a line for each call
 abbrev pub lines_from : Device → Live → List TraceCall → List Line
-lines_from device v calls = lines_by (answer_in device) (left_in device) v calls
+lines_from device v calls = lines_by (played device) v calls
 
 -- the lines of a whole play over a disk that is formatted and recovered first
 abbrev pub journal_lines : ℕ → Medium → List TraceCall → List Line

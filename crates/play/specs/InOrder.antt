@@ -15,7 +15,7 @@ use Rattle.listing.specs.declared.line.Line.{Line}
 use Rattle.listing.specs.declared.play_error.PlayError.{PlayError}
 use Rattle.listing.specs.declared.play_error.PlayError.TheVariants.{SealInOrder, Cache as Refused}
 use Rattle.listing.specs.Answers.{numbered}
-use Rattle.play.specs.Telling.{lines_by}
+use Rattle.play.specs.Telling.{Played, answered, lines_by}
 
 -- the plan once every bad entry before the first good one is taken
 abbrev pub until_good : List Entry → List Entry
@@ -34,19 +34,11 @@ value_of call (events.shown block) = Ok (FirstByte (slice_index block 0))
 value_of call (events.counted n) = Ok (numbered call 0)
 value_of call (events.refused e) = Err (Refused e)
 
--- a call's answer, and the cache that it leaves
-pub record Played : Type 0 where
-  pub answer : Result Answer PlayError
-  pub cache : Cache
-
-abbrev pub answered : Result Answer PlayError → Cache → Played
-answered r c = record { answer = r; cache = c }
-
-abbrev pub valued : TraceCall → Outcome → Played
+abbrev pub valued : TraceCall → Outcome → Played Cache
 valued call o = answered (value_of call o.answer) o.cache
 
 -- A call on the cache. A begin writes a block of fill bytes, and a seal is refused.
-abbrev pub called : Precedence → Device → TraceCall → Cache → Played
+abbrev pub called : Precedence → Device → TraceCall → Cache → Played Cache
 called precedes device (trace.Begin place fill) c = valued (trace.Begin place fill) (outcome precedes device (events.Begin place (replicate 512 fill)) c)
 called precedes device (trace.Finish ticket) c = valued (trace.Finish ticket) (outcome precedes device (events.Finish ticket) c)
 called precedes device (trace.Withdraw ticket) c = valued (trace.Withdraw ticket) (outcome precedes device (events.Withdraw ticket) c)
@@ -61,18 +53,12 @@ abbrev pub cut_by : Option ℕ → Cache → Cache
 cut_by None c = c
 cut_by (Some choice) c = made (opened_until (cut choice c.medium))
 
-abbrev pub played : Precedence → Device → TraceCall → Cache → Played
-played precedes device call c = answered (called precedes device call c).answer (cut_by (cut_choice call) (called precedes device call c).cache)
-
-abbrev pub answer_in : Precedence → Device → TraceCall → Cache → Result Answer PlayError
-answer_in precedes device call c = (played precedes device call c).answer
-
-abbrev pub left_in : Precedence → Device → TraceCall → Cache → Cache
-left_in precedes device call c = (played precedes device call c).cache
+abbrev pub played : Precedence → Device → TraceCall → Cache → Played Cache
+played precedes device call c = answered (called precedes device call c).answer (cut_by (cut_choice call) (called precedes device call c).left)
 
 -- a line for each call
 abbrev pub lines_from : Precedence → Device → Cache → List TraceCall → List Line
-lines_from precedes device c calls = lines_by (answer_in precedes device) (left_in precedes device) c calls
+lines_from precedes device c calls = lines_by (played precedes device) c calls
 
 -- the lines of a whole play over a disk that is taken up cold
 abbrev pub ordered_lines : Precedence → Device → Medium → List TraceCall → List Line

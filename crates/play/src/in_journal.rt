@@ -2,7 +2,8 @@
 ghost use Rattle.std.specs.Prelude.{◌≡◌, ◌≤◌, refl};
 ghost use Rattle.disk.specs.Medium.{join, size};
 ghost use Rattle.journal.specs.Model.{model};
-ghost use Rattle.play.specs.InJournal.{formatted_until, recovered_until, live_from, answered, called, lines_from};
+ghost use Rattle.play.specs.InJournal.{formatted_until, recovered_until, live_from, called, lines_from};
+ghost use Rattle.play.specs.Telling.{answered};
 ghost use Rattle.play.specs.Histories.{Running};
 
 use crate::player::Player;

@@ -3,7 +3,8 @@ ghost use Rattle.std.specs.Prelude.{◌≡◌, true, refl};
 ghost use Rattle.disk.specs.Medium.{join};
 ghost use Rattle.ordered.specs.Model.{model};
 ghost use Rattle.ordered.specs.Opening.{made as made_over};
-ghost use Rattle.play.specs.InOrder.{opened_until, answered, called, lines_from};
+ghost use Rattle.play.specs.InOrder.{opened_until, called, lines_from};
+ghost use Rattle.play.specs.Telling.{answered};
 
 use crate::player::Player;
 use disk::disk::{BLOCK, BenchDisk, JoiningDisk};
