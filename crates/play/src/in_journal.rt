@@ -12,7 +12,6 @@ use disk::disk::{BLOCK, JoiningDisk};
 use journal::live::Live;
 use journal_volume::cold::Cold;
 use listing::answer::Answer;
-use listing::line::Line;
 use listing::play_error::PlayError;
 use trace::call::TraceCall;
 
@@ -71,15 +70,14 @@ impl<D: JoiningDisk + Drop> Player for Live<D> {
 
     ghost lines = { λ live calls. lines_from (record { effect = join; tries = D.Disk.attempts }) (model D.Disk.medium live) calls };
 
-    fn play(self, call: TraceCall) -> (Live<D>, Line) {
-        let mut live = self;
-        let mut answer = answer_to(&mut live, call);
-        if let Some(choice) = call.cut_choice() {
-            let mut cold = live.cut(choice);
-            answer = Ok(Answer::Recovered(recover_until(&mut cold)));
-            live = Live::new(cold);
-        }
-        (live, Line { call, answer })
+    fn play(&mut self, call: TraceCall) -> Result<Answer, PlayError> {
+        answer_to(self, call)
+    }
+
+    fn play_cut(self, choice: u8) -> (Live<D>, Answer) {
+        let mut cold = self.cut(choice);
+        let number = recover_until(&mut cold);
+        (Live::new(cold), Answer::Recovered(number))
     }
 
     ghost ends = { λ live. refl };

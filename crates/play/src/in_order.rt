@@ -9,7 +9,6 @@ ghost use Rattle.play.specs.Telling.{answered};
 use crate::player::Player;
 use disk::disk::{BLOCK, BenchDisk, JoiningDisk};
 use listing::answer::Answer;
-use listing::line::Line;
 use listing::play_error::PlayError;
 use ordered::cold::Cold;
 use ordered::live::Live;
@@ -97,13 +96,14 @@ impl<D: JoiningDisk + Drop, P: Precedence + Copy + Drop> Player for InOrder<D, P
 
     ghost lines = { λ p calls. lines_from (P.Precedence.before p.order) (record { rule = join; tries = D.Disk.attempts }) (model D.Disk.medium p.live) calls };
 
-    fn play(self, call: TraceCall) -> (InOrder<D, P>, Line) {
-        let InOrder { mut live, order } = self;
-        let answer = answer_to(&mut live, call);
-        if let Some(choice) = call.cut_choice() {
-            live = taken_up(live.cut(choice), order);
-        }
-        (InOrder { live, order }, Line { call, answer })
+    fn play(&mut self, call: TraceCall) -> Result<Answer, PlayError> {
+        answer_to(&mut self.live, call)
+    }
+
+    fn play_cut(self, choice: u8) -> (InOrder<D, P>, Answer) {
+        let InOrder { live, order } = self;
+        let live = taken_up(live.cut(choice), order);
+        (InOrder { live, order }, Answer::Opened)
     }
 
     ghost ends = { λ p. refl };
