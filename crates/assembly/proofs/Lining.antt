@@ -1,10 +1,16 @@
 -- A text that is taken line by line.
 use Rattle.std.proofs.Common.{◌≡◌, ℕ, ◌+◌, ◌<◌, ◌≤◌, Bool, true, false, cond, ◌⊎◌, inl, inr, List, [], ◌∷◌, ◌++◌, length, get_or, drop, Ok, Err, Result, is_ok, sym, refl, ap, ◌∙◌, subst, arith}
+use Rattle.std.specs.Fn.{CalledAt}
+use Rattle.std.specs.Iterator.Adapters.{enumerate_source, enumerate_count, enumerate_steps}
+use Rattle.std.specs.Slice.Iter.{split_rest, split_done, split_callee, split_steps}
+use Rattle.std.proofs.lemmas.Iterator.{YieldsList}
+use Rattle.std.proofs.lemmas.Iterator.Consumers.{YieldsList-at, YieldsList-from_enumerate}
+use Rattle.std.proofs.lemmas.Iterator.Splits.{YieldsList-from_slice_split}
 use Rattle.std.specs.Result.{MatchResult, IsErrAnd}
 use Rattle.std.specs.List.{slice_split, onto_first, enumerate_from}
 use Rattle.std.proofs.lemmas.List.FromFn.{length-enumerate_from, get_or-enumerate_from}
 use Rattle.std.proofs.lemmas.List.{at_drop_more}
-use Rattle.std.proofs.lemmas.Bool.{both_ways, le-leb, lt-leb}
+use Rattle.std.proofs.lemmas.Bool.{both_ways, le-leb}
 use Rattle.trace.specs.declared.call.Mode.TheVariants.{Overlap}
 use Rattle.trace.specs.Building.{bare}
 use Rattle.trace.specs.Format.{Trace}
@@ -60,8 +66,11 @@ pub assembled_within : (text : List ℕ) → length text ≤ 1048576 → from_li
 assembled_within text l =
     from_parts 1 text (bare Overlap false) ∙ sym (ap (λ b. cond b (from_line 1 (lines text) (bare Overlap false)) (Err TooLong)) (le-leb (length text) 1048576 l))
 
-pub assembled_past : (text : List ℕ) → 1048576 < length text → assembled text ≡ Err TooLong
-assembled_past text l = ap (λ b. cond b (from_line 1 (lines text) (bare Overlap false)) (Err TooLong)) (lt-leb (length text) 1048576 l)
+-- the lines of a text with their indices, as the library's iterators give them
+pub counted_lines : {F : Type 0} {f : F} {s : _} {parts : _} (g : _) (text : List ℕ) → enumerate_source s ≡ parts →
+    enumerate_count s ≡ 0 → split_rest parts ≡ text → split_done parts ≡ false → split_callee parts ≡ f → ((x : ℕ) (b : Bool) (q : F) → CalledAt g f x b q → (q ≡ f) × (b ≡ is_line_end x)) →
+    YieldsList (enumerate_steps (split_steps g)) (λ p. (p.0, p.1.now)) s (enumerate_from 0 (slice_split is_line_end text))
+counted_lines g text from count rest done closure each = YieldsList-from_enumerate (YieldsList-at from (YieldsList-from_slice_split g is_line_end text rest done closure each)) count
 
 -- the line at an index, as the library counts them
 pub numbered : (ls : List (List ℕ)) (k i : ℕ) (line : List ℕ) → k < length (enumerate_from 0 ls) → ◌≡◌ {A = ℕ × List ℕ} (i, line) (get_or (enumerate_from 0 ls) k (i, line)) →

@@ -1,6 +1,7 @@
 -- The text of a trace is assembled to it.
 use Rattle.std.proofs.Common.{◌≡◌, ℕ, zero, suc, ◌+◌, ◌-◌, ◌*◌, ◌/◌, ◌%◌, ◌<◌, ◌≤◌, Bool, true, false, cond, not, ◌&&◌, ◌||◌, eqb, ltb, leb, ◌⊎◌, List, [], ◌∷◌, ◌++◌, map, length, take, Some, None, Ok, Err, codes, Option, Result, sym, refl, ap, ◌∙◌, inl, inr, arith}
-use Rattle.std.specs.List.{flat_map, onto_first}
+use Rattle.std.specs.List.{flat_map, list_all, onto_first}
+use Rattle.std.proofs.lemmas.List.Folds.{list_all-append}
 use Rattle.std.proofs.lemmas.List.{append_assoc, append-nil, length-append, take_all}
 use Rattle.std.proofs.lemmas.Bool.{and_parts, and_from, not-true, not_from_false, or_from, cases_Bool, ltb-true, leb-true, lt-ltb, le-leb, ne_eqb, cond-true}
 use Rattle.trace.specs.declared.call.Mode.{Mode}
@@ -28,8 +29,7 @@ use Rattle.assembly.proofs.Digits.{number_some}
 
 -- no byte that passes a test
 abbrev free : (ℕ → Bool) → List ℕ → Bool
-free test [] = true
-free test (b ∷ bs) = not (test b) && free test bs
+free test bs = list_all (λ b. not (test b)) bs
 
 free_parts : (test : ℕ → Bool) (b : ℕ) (bs : List ℕ) → free test (b ∷ bs) ≡ true → (test b ≡ false) × (free test bs ≡ true)
 free_parts test b bs p = let h = and_parts (not (test b)) (free test bs) p in (not-true (test b) h.0, h.1)
@@ -65,14 +65,14 @@ first_free test (b ∷ bs) p =
 
 -- a byte that ends no line and begins no comment
 abbrev plain : List ℕ → Bool
-plain [] = true
-plain (b ∷ bs) = (not (eqb b 10) && not (eqb b 35)) && plain bs
+plain bs = list_all (λ b. not (eqb b 10) && not (eqb b 35)) bs
+
+-- what all of two lists pass, all of both together pass
+all_append : (test : ℕ → Bool) (xs ys : List ℕ) → list_all test xs ≡ true → list_all test ys ≡ true → list_all test (xs ++ ys) ≡ true
+all_append test xs ys p q = list_all-append test xs ys ∙ and_from (list_all test xs) (list_all test ys) p q
 
 plain_append : (xs ys : List ℕ) → plain xs ≡ true → plain ys ≡ true → plain (xs ++ ys) ≡ true
-plain_append [] ys p q = q
-plain_append (x ∷ xs) ys p q =
-    let h = and_parts (not (eqb x 10) && not (eqb x 35)) (plain xs) p in
-    and_from (not (eqb x 10) && not (eqb x 35)) (plain (xs ++ ys)) h.0 (plain_append xs ys h.1 q)
+plain_append = all_append (λ b. not (eqb b 10) && not (eqb b 35))
 
 plain_free : (bs : List ℕ) → plain bs ≡ true → (free is_line_end bs ≡ true) × (free is_comment bs ≡ true)
 plain_free [] p = (refl, refl)
@@ -86,8 +86,7 @@ uncommented_plain : (line : List ℕ) → plain line ≡ true → uncommented li
 uncommented_plain line p = ap (λ n. take n line) (first_free is_comment line (plain_free line p).1) ∙ take_all (length line) line (omega arith)
 
 abbrev all_plain : List (List ℕ) → Bool
-all_plain [] = true
-all_plain (l ∷ ls) = plain l && all_plain ls
+all_plain ls = list_all plain ls
 
 lines_back : (ls : List (List ℕ)) → all_plain ls ≡ true → lines (line_by_line ls) ≡ ls
 lines_back [] p = refl
@@ -135,14 +134,8 @@ digits_plain = digits_each plain refl (λ d l. one d l) plain_append
     one d l = and_from (not (eqb (48 + d) 10) && not (eqb (48 + d) 35)) true
         (and_from (not (eqb (48 + d) 10)) (not (eqb (48 + d) 35)) (not_from_false (eqb (48 + d) 10) (digit_not d 10 l (omega arith))) (not_from_false (eqb (48 + d) 35) (digit_not d 35 l (omega arith)))) refl
 
-free_append : (test : ℕ → Bool) (xs ys : List ℕ) → free test xs ≡ true → free test ys ≡ true → free test (xs ++ ys) ≡ true
-free_append test [] ys p q = q
-free_append test (x ∷ xs) ys p q =
-    let h = and_parts (not (test x)) (free test xs) p in
-    and_from (not (test x)) (free test (xs ++ ys)) h.0 (free_append test xs ys h.1 q)
-
 digits_dark : (k n : ℕ) → free is_blank (digits k n) ≡ true
-digits_dark = digits_each (free is_blank) refl (λ d l. one d l) (free_append is_blank)
+digits_dark = digits_each (free is_blank) refl (λ d l. one d l) (all_append (λ b. not (is_blank b)))
   where
     one : (d : ℕ) → d < 10 → free is_blank ((48 + d) ∷ []) ≡ true
     one d l = and_from (not (is_blank (48 + d))) true

@@ -32,10 +32,6 @@ abbrev pub located_at : ℕ → LineError → AssemblyError
 located_at line (line_error.Mistake mistake) = Line line mistake
 located_at line line_error.NoMemory = NoMemory
 
--- how an allocation that failed is reported
-abbrev pub no_memory : AssemblyError
-no_memory = NoMemory
-
 -- the error is the expected one; of want of memory nothing is said
 abbrev pub Fails : Result Trace AssemblyError → AssemblyError → Type 0
 Fails expected TooLong = expected ≡ Err TooLong

@@ -26,10 +26,6 @@ with_mode mode t = record { mode = mode; retry = t.retry; plan = t.plan; calls =
 abbrev pub with_retry : Bool → Trace → Trace
 with_retry retry t = record { mode = t.mode; retry = retry; plan = t.plan; calls = t.calls }
 
--- a mistake as a line's error
-abbrev pub mistaken : Mistake → LineError
-mistaken mistake = line_error.Mistake mistake
-
 -- why a call of the trace's refused, with the mistake where the trace is full
 abbrev pub refusal_of : GrowError → Mistake → LineError
 refusal_of Full mistake = line_error.Mistake mistake

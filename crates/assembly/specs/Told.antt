@@ -1,6 +1,6 @@
 -- The text of a trace: a line for the mode, the retry layers and the plan, and one a call.
 use Rattle.std.specs.Prelude.{◌≡◌, ℕ, zero, suc, ◌+◌, ◌/◌, ◌%◌, ◌≤◌, Bool, true, false, cond, ◌&&◌, List, [], ◌∷◌, ◌++◌, map, length, Ok, Err, codes, Result, ◌==◌, nat_lt}
-use Rattle.std.specs.List.{flat_map}
+use Rattle.std.specs.List.{flat_map, list_all}
 use Rattle.trace.specs.declared.call.Mode.{Mode}
 use Rattle.trace.specs.declared.call.Mode.TheVariants.{Overlap, Line, Journaled}
 use Rattle.trace.specs.declared.call.TraceCall.{TraceCall}
@@ -57,8 +57,7 @@ abbrev pub fits : TraceCall → Bool
 fits call = nat_lt (number_of call) 65536 && nat_lt (fill_of call) 256
 
 abbrev pub all_fit : List TraceCall → Bool
-all_fit [] = true
-all_fit (c ∷ cs) = fits c && all_fit cs
+all_fit cs = list_all fits cs
 
 -- a trace that fits its format
 pub record WellFormed (t : Trace) : Type 0 where

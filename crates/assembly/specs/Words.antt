@@ -1,6 +1,5 @@
 -- Lines and words of a text.
 use Rattle.std.specs.Prelude.{ℕ, suc, Bool, cond, not, ◌||◌, List, [], ◌∷◌, Some, None, Option, ◌==◌}
-use Rattle.std.specs.Borrow.{Bor}
 use Rattle.std.specs.List.{onto_first}
 
 -- words stand between spaces, tabs and carriage returns
@@ -46,6 +45,3 @@ abbrev pub only : List (List ℕ) → Option (List ℕ)
 only [] = None
 only (w ∷ []) = Some w
 only (w ∷ (v ∷ ws)) = None
-
-abbrev pub both_now : Bor (List ℕ) × Bor (List ℕ) → List ℕ × List ℕ
-both_now p = (p.0.now, p.1.now)

@@ -1,7 +1,8 @@
 ghost use Rattle.std.specs.Prelude.{◌≡◌, Some};
 ghost use Rattle.assembly.specs.Messages.{message_of, error_text};
-ghost use Rattle.assembly.specs.Statements.{mistaken};
-ghost use Rattle.assembly.specs.Assembled.{located_at, no_memory};
+ghost use Rattle.assembly.specs.declared.mistake.LineError.TheVariants as line_error;
+ghost use Rattle.assembly.specs.Assembled.{located_at};
+ghost use Rattle.assembly.specs.declared.mistake.AssemblyError.TheVariants.{NoMemory};
 
 use crate::assembling::TEXT_MAX;
 use std::alloc::AllocError;
@@ -35,6 +36,7 @@ impl Mistake {
     }
 }
 
+// The mistake in words.
 impl fmt::Display for Mistake {
     ghost output = { λ mistake. Some (message_of mistake) };
 
@@ -63,7 +65,7 @@ impl LineError {
 }
 
 impl From<Mistake> for LineError {
-    ghost from_gives = { λ mistake error. error ≡ mistaken mistake };
+    ghost from_gives = { λ mistake error. error ≡ line_error.Mistake mistake };
 
     fn from(mistake: Mistake) -> LineError {
         LineError::Mistake(mistake)
@@ -80,6 +82,7 @@ pub enum AssemblyError {
     NoMemory,
 }
 
+// The error in words, with the line and its mistake.
 impl fmt::Display for AssemblyError {
     ghost output = { λ error. Some (error_text error) };
 
@@ -95,7 +98,7 @@ impl fmt::Display for AssemblyError {
 impl Error for AssemblyError {}
 
 impl From<AllocError> for AssemblyError {
-    ghost from_gives = { λ _ error. error ≡ no_memory };
+    ghost from_gives = { λ _ error. error ≡ NoMemory };
 
     fn from(_error: AllocError) -> AssemblyError {
         AssemblyError::NoMemory

@@ -13,6 +13,7 @@ fn appended(number: u16, digit: u8) -> Option<u16>
 }
 
 // The number that the word writes.
+// Digit by digit: the library's `parse` takes a sign too, and reads a text, which bytes need not be.
 pub(crate) fn number(word: &[u8]) -> Option<u16>
     ensures { result ≡ number_of word.now }
 {

@@ -1,7 +1,8 @@
 // Lines and words as parts of the text.
 ghost use Rattle.std.specs.Prelude.{◌≡◌};
 ghost use Rattle.std.specs.Option.{option_map};
-ghost use Rattle.assembly.specs.Words.{is_blank, words, listed, only, both_now};
+ghost use Rattle.assembly.specs.Words.{is_blank, words, listed, only};
+ghost use Rattle.trace.specs.Lent.{both_now};
 
 // Words stand between spaces, tabs and carriage returns.
 fn is_blank(byte: u8) -> bool
@@ -11,6 +12,7 @@ fn is_blank(byte: u8) -> bool
 }
 
 // The first word, and what follows it; none where there is no word.
+// Parts of the line, not an iterator: each function then says what it does by the words of a slice.
 pub(crate) fn first_word(bytes: &[u8]) -> Option<(&[u8], &[u8])>
     ensures { listed (option_map both_now result) ≡ words bytes.now }
 {

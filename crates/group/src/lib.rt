@@ -4,4 +4,5 @@
 pub mod group;
 pub mod making;
 pub mod phase;
+pub mod sealing;
 pub mod turn;

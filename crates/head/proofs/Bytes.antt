@@ -89,8 +89,14 @@ read_more n i v bs ps d l e f =
     worth : from_le_bytes w16 (take 2 (drop (2 * i) bs)) ≡ get_or bs (2 * i) 0 + 256 * get_or bs (2 * i + 1) 0
     worth =
         two_worth (take 2 (drop (2 * i) bs))
-        ∙ omega (arith, get_or-take 2 (drop (2 * i) bs) 0 0 (omega arith), get_or-take 2 (drop (2 * i) bs) 1 0 (omega arith), get_or-drop (2 * i) bs 0 0,
-        get_or-drop (2 * i) bs 1 0, ap (λ k. get_or bs k 0) (let e : 2 * i + 0 ≡ 2 * i = omega arith in e))
+        ∙ omega (
+          arith,
+          get_or-take 2 (drop (2 * i) bs) 0 0 (omega arith),
+          get_or-take 2 (drop (2 * i) bs) 1 0 (omega arith),
+          get_or-drop (2 * i) bs 0 0,
+          get_or-drop (2 * i) bs 1 0,
+          ap (λ k. get_or bs k 0) (let e : 2 * i + 0 ≡ 2 * i = omega arith in e),
+        )
 
 pub candidate_is : (h : model.Head) (block : List ℕ) →
     h.number ≡ get_or block 1 0 + (256 * get_or block 2 0 + (65_536 * get_or block 3 0 + 16_777_216 * get_or block 4 0)) →

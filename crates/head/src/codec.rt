@@ -63,7 +63,9 @@ impl Head {
         let mut block = [0u8; BLOCK];
         block[0] = 1;
         block[1..5].copy_from_slice(&self.number.to_le_bytes());
+        // At most eight places, so that their number fits a byte.
         block[5] = self.len() as u8;
+        // An index: the bytes of the i-th place lie at it.
         for (i, place) in self.places().iter().enumerate() {
             block[6 + 2 * i..8 + 2 * i].copy_from_slice(&low_bytes(*place));
         }

@@ -2,7 +2,6 @@
 use Rattle.std.proofs.Common.{◌≡◌, ℕ, suc, ◌+◌, Bool, true, false, cond, not, eqb, ltb, leb, List, [], ◌∷◌, ◌++◌, map, length, is_some as option_is_some, Some, None, Ok, Err, Option, Result, sym, refl, ap, ◌∙◌, subst, add-one}
 use mathlib.Core.Option.{Option as Maybe, some, none}
 use Rattle.batch.specs.Rows.{write_list}
-use Rattle.std.proofs.lemmas.Bool.{both_ways}
 use Rattle.disk.specs.declared.error.Kind.TheVariants as kind
 use Rattle.disk.specs.declared.error.DiskError.{DiskError}
 use Rattle.disk.specs.Medium.{Block, Write, Effect, Medium, passed, cut}
@@ -14,7 +13,7 @@ use Rattle.errors.specs.declared.CacheError.TheVariants as error
 use Rattle.errors.specs.Errors.{raised, during_call}
 use Rattle.head.specs.Head.{holds}
 use Rattle.journal_law.specs.Device.{Device}
-use Rattle.journal_law.specs.Cache.{Begun, Group, Live, opened, Call, begin, finish, withdraw, read, seal, step, restart, Answer, accepted, shown, refused, Outcome, decided, place_of, begun_place, different, begun, find, without, collect, finished, withdrawn, cached, group_writes, read_disk, read_shown, is_some, sealed, DiskCall, phase_call, next_phase, restarted_phase, in_phase, good_answer, call_fate, call_answer, good_medium, asked_write, step_met, stepped, group_restarted, slot, slots_flush, home, homes_flush, step_asks, group_asks, with_medium, outcome, with_group}
+use Rattle.journal_law.specs.Cache.{Begun, Group, Live, opened, Call, begin, finish, withdraw, read, seal, step, restart, Answer, accepted, shown, refused, Outcome, decided, place_of, begun_place, different, begun, find, without, collect, finished, withdrawn, cached, group_writes, read_disk, read_shown, is_some, sealed, DiskCall, phase_call, next_phase, in_phase, good_answer, call_fate, call_answer, good_medium, asked_write, step_met, stepped, group_restarted, slot, slots_flush, home, homes_flush, step_asks, group_asks, with_medium, outcome, with_group}
 use Rattle.journal_law.specs.Recovery.{home_blocks}
 use Rattle.journal_law.specs.Laws.{JustRecovered, Ran, no_call, Laws, RunsOn}
 use Rattle.journal_volume.specs.Recovering.{with_number}
@@ -27,7 +26,7 @@ use Rattle.group.specs.declared.group.Group.{Group as CodeGroup}
 use Rattle.group.specs.declared.turn.Turn.{Turn}
 use Rattle.errors.specs.Errors.{progress_number}
 use Rattle.group.specs.Phases.{phase_of, wrote_to, next, advanced}
-use Rattle.group.specs.Groups.{group_of, under_way, Makes}
+use Rattle.group.specs.Groups.{under_way, Makes}
 use Rattle.journal.specs.Model.{read_as, filled}
 use Rattle.journal.proofs.Rooms.{without_none}
 
@@ -127,9 +126,9 @@ module _ (device : Device) (v : Live) (ticket : ℕ) (opens : List Begun) (rest 
 
 -- ---- seal
 
-pub under_some : (G : CodeGroup) (o : Option Phase) (b : Bool) → b ≡ option_is_some o → is_some (under_way G o) ≡ b
-under_some G None b e = sym e
-under_some G (Some p) b e = sym e
+pub under_some : (o : Option CodeGroup) (b : Bool) → b ≡ option_is_some o → is_some (under_way o) ≡ b
+under_some None b e = sym e
+under_some (Some G) b e = sym e
 
 module _ (device : Device) (v : Live) where
   abbrev seal_tested : Bool → Bool → Bool → Outcome
@@ -151,7 +150,7 @@ module _ (device : Device) (v : Live) where
   pub seal_10 : is_some v.group ≡ false → eqb (length v.collected) 0 ≡ false → leb 4_294_967_295 v.last ≡ true → seal_refusal_of error.NoNumbers ≡ outcome device v seal
   seal_10 p q r = seal_is false false true p q r
 
-  pub seal_0 : is_some v.group ≡ false → eqb (length v.collected) 0 ≡ false → leb 4_294_967_295 v.last ≡ false → (batch ws : List Write) → batch ≡ [] → ws ≡ v.collected →
+  pub seal_0 : is_some v.group ≡ false → eqb (length v.collected) 0 ≡ false → leb 4_294_967_295 v.last ≡ false → (batch : List Write) (g : Maybe Group) → batch ≡ [] → g ≡ some (record { number = v.last + 1; writes = v.collected; phase = slot 0 }) →
       record {
         answer = accepted (v.last + 1);
         live = record {
@@ -160,12 +159,12 @@ module _ (device : Device) (v : Live) where
           counter = v.counter;
           open_writes = v.open_writes;
           collected = batch;
-          group = some (record { number = v.last + 1; writes = ws; phase = slot 0 });
+          group = g;
           last = v.last + 1;
         };
       } ≡ outcome device v seal
-  seal_0 p q r batch ws e f =
-      ap (λ (xs : List Write). record {
+  seal_0 p q r batch g e f =
+      ap (λ (o : Maybe Group). record {
         answer = accepted (v.last + 1);
         live = record {
           medium = v.medium;
@@ -173,7 +172,7 @@ module _ (device : Device) (v : Live) where
           counter = v.counter;
           open_writes = v.open_writes;
           collected = batch;
-          group = some (record { number = v.last + 1; writes = xs; phase = slot 0 });
+          group = o;
           last = v.last + 1;
         };
       }) f
@@ -205,6 +204,14 @@ module _ (device : Device) (v : Live) where
 
 -- ---- step and restart
 
+-- a group at a phase, or none
+abbrev pub group_at : CodeGroup → Phase → Group
+group_at G p = record { number = G.number; writes = write_list G.writes; phase = phase_of p }
+
+abbrev pub under_at : CodeGroup → Option Phase → Maybe Group
+under_at G None = none
+under_at G (Some p) = some (group_at G p)
+
 abbrev turn_or : Turn → Result Turn CacheError → Turn
 turn_or d (Ok t) = t
 turn_or d (Err e) = d
@@ -219,7 +226,7 @@ error_or d (Err e) = e
 
 abbrev Follows : ℕ → CodeGroup → Phase → ℕ → Turn → Type 0
 Follows n G p blocks t =
-    (under_way G t.phase ≡ in_phase (group_of G p) (next_phase blocks (phase_of p))) × (progress_number t.progress ≡ good_answer (phase_call n (group_of G p) (phase_of p)))
+    (under_at G t.phase ≡ in_phase (group_at G p) (next_phase blocks (phase_of p))) × (progress_number t.progress ≡ good_answer (phase_call n (group_at G p) (phase_of p)))
 
 -- the turn that follows a good call is the model's
 next_is : (n : ℕ) (G : CodeGroup) (p : Phase) (blocks : ℕ) (t : Turn) → next blocks p ≡ Ok t → Follows n G p blocks t
@@ -227,11 +234,11 @@ next_is n G (phase.Slot i) blocks t e = go (ltb (i + 1) blocks) (ap (λ k. ltb k
   where
     go : (b : Bool) → ltb (suc i) blocks ≡ b → cond b (wrote_to (phase.Slot (i + 1))) (wrote_to phase.SlotsFlush) ≡ Ok t → Follows n G (phase.Slot i) blocks t
     go true q r = subst (Follows n G (phase.Slot i) blocks) (ap (turn_or t) r) (
-      ap (λ k. in_phase (group_of G (phase.Slot i)) (some (slot k))) (add-one i) ∙ sym (ap (λ b. in_phase (group_of G (phase.Slot i)) (some (cond b (slot (suc i)) slots_flush))) q),
+      ap (λ k. in_phase (group_at G (phase.Slot i)) (some (slot k))) (add-one i) ∙ sym (ap (λ b. in_phase (group_at G (phase.Slot i)) (some (cond b (slot (suc i)) slots_flush))) q),
       refl,
     )
     go false q r = subst (Follows n G (phase.Slot i) blocks) (ap (turn_or t) r)
-        (sym (ap (λ b. in_phase (group_of G (phase.Slot i)) (some (cond b (slot (suc i)) slots_flush))) q), refl)
+        (sym (ap (λ b. in_phase (group_at G (phase.Slot i)) (some (cond b (slot (suc i)) slots_flush))) q), refl)
 next_is n G phase.SlotsFlush blocks t e = subst (Follows n G phase.SlotsFlush blocks) (ap (turn_or t) e) (refl, refl)
 next_is n G phase.Head blocks t e = subst (Follows n G phase.Head blocks) (ap (turn_or t) e) (refl, refl)
 next_is n G phase.HeadFlush blocks t e = subst (Follows n G phase.HeadFlush blocks) (ap (turn_or t) e) (refl, refl)
@@ -239,11 +246,11 @@ next_is n G (phase.Home i) blocks t e = go (ltb (i + 1) blocks) (ap (λ k. ltb k
   where
     go : (b : Bool) → ltb (suc i) blocks ≡ b → cond b (wrote_to (phase.Home (i + 1))) (wrote_to phase.HomesFlush) ≡ Ok t → Follows n G (phase.Home i) blocks t
     go true q r = subst (Follows n G (phase.Home i) blocks) (ap (turn_or t) r) (
-      ap (λ k. in_phase (group_of G (phase.Home i)) (some (home k))) (add-one i) ∙ sym (ap (λ b. in_phase (group_of G (phase.Home i)) (some (cond b (home (suc i)) homes_flush))) q),
+      ap (λ k. in_phase (group_at G (phase.Home i)) (some (home k))) (add-one i) ∙ sym (ap (λ b. in_phase (group_at G (phase.Home i)) (some (cond b (home (suc i)) homes_flush))) q),
       refl,
     )
     go false q r = subst (Follows n G (phase.Home i) blocks) (ap (turn_or t) r)
-        (sym (ap (λ b. in_phase (group_of G (phase.Home i)) (some (cond b (home (suc i)) homes_flush))) q), refl)
+        (sym (ap (λ b. in_phase (group_at G (phase.Home i)) (some (cond b (home (suc i)) homes_flush))) q), refl)
 next_is n G phase.HomesFlush blocks t e = subst (Follows n G phase.HomesFlush blocks) (ap (turn_or t) e) (refl, refl)
 next_is n G phase.Empty blocks t e = subst (Follows n G phase.Empty blocks) (ap (turn_or t) e) (refl, refl)
 next_is n G phase.EmptyFlush blocks t e = subst (Follows n G phase.EmptyFlush blocks) (ap (turn_or t) e) (refl, refl)
@@ -266,9 +273,9 @@ next_ok blocks phase.HomesFlush = tt
 next_ok blocks phase.Empty = tt
 next_ok blocks phase.EmptyFlush = tt
 
-module _ (v : Live) (G : CodeGroup) (p : Phase) (tries : ℕ) (rule : Write → Effect) (under : v.group ≡ under_way G (Some p)) where
+module _ (v : Live) (G : CodeGroup) (p : Phase) (tries : ℕ) (rule : Write → Effect) (under : v.group ≡ under_at G (Some p)) where
   abbrev g : Group
-  g = group_of G p
+  g = group_at G p
 
   abbrev call : DiskCall
   call = phase_call v.home_count g g.phase
@@ -284,17 +291,17 @@ module _ (v : Live) (G : CodeGroup) (p : Phase) (tries : ℕ) (rule : Write → 
 
   module _ (blocks : ℕ) (ans : disk.Answer) (m' : Medium) (made : Makes rule tries call v.medium ans m') (count : blocks ≡ length g.writes) where
     pub step_ok : (t : Turn) → Ok t ≡ advanced blocks p (raised during.Step ans) →
-        record { answer = accepted (progress_number t.progress); live = with_group v m' (under_way G t.phase) } ≡ outcome device v step
+        record { answer = accepted (progress_number t.progress); live = with_group v m' (under_at G t.phase) } ≡ outcome device v step
     step_ok t e = go (call_fate v.medium call) refl made.answers made.after
       where
         fails : (x : CacheError) → Ok t ≡ Err x → ⊥
         fails x q = subst IsOk q tt
 
         go : (f : Fate) → call_fate v.medium call ≡ f → ans ≡ call_answer tries call f → m' ≡ leaves v.medium (good_medium (rule (asked_write call)) call v.medium) f →
-            record { answer = accepted (progress_number t.progress); live = with_group v m' (under_way G t.phase) } ≡ outcome device v step
+            record { answer = accepted (progress_number t.progress); live = with_group v m' (under_at G t.phase) } ≡ outcome device v step
         go served q a m =
             let follows : Follows v.home_count G p blocks t = next_is v.home_count G p blocks t (sym (e ∙ ap (λ x. advanced blocks p (raised during.Step x)) a)) in
-            ap (λ k. record { answer = accepted k; live = with_group v m' (under_way G t.phase) }) follows.1
+            ap (λ k. record { answer = accepted k; live = with_group v m' (under_at G t.phase) }) follows.1
             ∙ ap (λ (o : Maybe Group). record { answer = accepted (good_answer call); live = with_group v m' o })
             (follows.0 ∙ ap (λ k. in_phase g (next_phase k (phase_of p))) count)
             ∙ ap (λ (x : Medium). record { answer = accepted (good_answer call); live = with_group v x (in_phase g (next_phase (length g.writes) (phase_of p))) })
@@ -327,18 +334,11 @@ module _ (v : Live) (G : CodeGroup) (p : Phase) (tries : ℕ) (rule : Write → 
 pub step_idle : (device : Device) (v : Live) → v.group ≡ none → record { answer = accepted 0; live = v } ≡ outcome device v step
 step_idle device v e = ap (stepped v.home_count device v) (sym e)
 
-pub restart_none : (device : Device) (v : Live) (choice : ℕ) (m : Medium) → m ≡ cut choice v.medium → v.group ≡ none →
-    record { answer = accepted 0; live = with_group v m v.group } ≡ outcome device v (restart choice)
-restart_none device v choice m e f =
-    ap (λ (x : Medium). record { answer = accepted 0; live = with_group v x v.group }) e
-    ∙ ap (λ (o : Maybe Group). record { answer = accepted 0; live = with_group v (cut choice v.medium) o }) (f ∙ ap group_restarted (sym f))
-
-pub restart_some : (device : Device) (v : Live) (choice : ℕ) (m : Medium) (G : CodeGroup) (p q : Phase) → m ≡ cut choice v.medium → v.group ≡ under_way G (Some p) →
-    phase_of q ≡ restarted_phase (phase_of p) → record { answer = accepted 0; live = with_group v m (under_way G (Some q)) } ≡ outcome device v (restart choice)
-restart_some device v choice m G p q e f r =
-    ap (λ (x : Medium). record { answer = accepted 0; live = with_group v x (under_way G (Some q)) }) e
-    ∙ ap (λ (o : Maybe Group). record { answer = accepted 0; live = with_group v (cut choice v.medium) o })
-    (ap (λ ph. in_phase (group_of G p) (some ph)) r ∙ ap group_restarted (sym f))
+pub restart_by : (device : Device) (v : Live) (choice : ℕ) (m : Medium) (o : Maybe Group) → m ≡ cut choice v.medium → o ≡ group_restarted v.group →
+    record { answer = accepted 0; live = with_group v m o } ≡ outcome device v (restart choice)
+restart_by device v choice m o e f =
+    ap (λ (x : Medium). record { answer = accepted 0; live = with_group v x o }) e
+    ∙ ap (λ (x : Maybe Group). record { answer = accepted 0; live = with_group v (cut choice v.medium) x }) f
 
 -- ---- read
 
@@ -417,13 +417,11 @@ module _ (device : Device) (v : Live) (place room : ℕ) where
       go wrong_place z a l b = by wrong_place _ z refl b _ l a refl
 
 -- what the group holds for a read
-pub no_group : (G : CodeGroup) (o : Option Phase) → false ≡ option_is_some o → group_writes (under_way G o) ≡ []
-no_group G None e = refl
-no_group G (Some p) e = absurd (both_ways true (sym e) refl)
+pub no_group : (o : Option CodeGroup) → o ≡ None → group_writes (under_way o) ≡ []
+no_group o e = ap (λ x. group_writes (under_way x)) e
 
-pub some_group : (G : CodeGroup) (o : Option Phase) → true ≡ option_is_some o → group_writes (under_way G o) ≡ write_list G.writes
-some_group G None e = absurd (both_ways true e refl)
-some_group G (Some p) e = refl
+pub some_group : (o : Option CodeGroup) (G : CodeGroup) → o ≡ Some G → group_writes (under_way o) ≡ write_list G.writes
+some_group o G e = ap (λ x. group_writes (under_way x)) e
 
 -- ---- the making
 

@@ -18,7 +18,7 @@ model medium c = record {
   counter = c.counter;
   open_writes = begun_list c.opens;
   collected = write_list c.collected;
-  group = under_way c.group c.phase;
+  group = under_way c.group;
   last = c.last;
 }
 

@@ -12,7 +12,6 @@ use batch::rows::Batch;
 use disk::disk::{BLOCK, BenchDisk};
 use errors::CacheError;
 use group::group::Group;
-use group::phase::Phase;
 use head::head::MOST_PLACES;
 use std::mem;
 
@@ -53,6 +52,7 @@ impl<D: BenchDisk> Live<D> {
         if self.places_with(place) > MOST_PLACES {
             return Err(CacheError::NoRoom);
         }
+        // At most eight writes are open, so that their number fits a mark.
         if self.counter + self.opens.len() as u32 + 2 > LAST_MARK {
             return Err(CacheError::NoMarks);
         }
@@ -92,7 +92,7 @@ impl<D: BenchDisk> Live<D> {
         ensures outcome { record { answer = marked result; live = model D.Disk.medium self.new } ≡ does D.Disk.medium D.Disk.rule D.Disk.attempts self.old seal_call }
         ensures runs { RunsOn seal_call (model D.Disk.medium self.old) (marked result) (model D.Disk.medium self.new) }
     {
-        if self.phase.is_some() {
+        if self.group.is_some() {
             return Err(CacheError::GroupUnderWay);
         }
         if self.collected.len() == 0 {
@@ -102,11 +102,8 @@ impl<D: BenchDisk> Live<D> {
             return Err(CacheError::NoNumbers);
         }
         let number = self.last + 1;
-        self.group = Group {
-            number,
-            writes: mem::replace(&mut self.collected, Batch::new()),
-        };
-        self.phase = Some(Phase::Slot(0));
+        let writes = mem::replace(&mut self.collected, Batch::new());
+        self.group = Some(Group::new(number, writes));
         self.last = number;
         Ok(number)
     }

@@ -2,11 +2,9 @@ ghost use Rattle.std.specs.Prelude.{◌≡◌, ◌+◌, ◌≤◌, true, ◌++�
 ghost use Rattle.head.specs.Head.{all_below, none_twice};
 ghost use Rattle.journal_law.specs.Cache.{place_of, begun_place, different};
 ghost use Rattle.batch.specs.Rows.{entries, begun_list, write_list};
-ghost use Rattle.group.specs.Phases.{fitting};
 
 use batch::rows::Batch;
 use group::group::Group;
-use group::phase::Phase;
 
 // A recovered volume that takes the calls of the cache.
 #[derive(Drop)]
@@ -17,9 +15,8 @@ pub struct Live<D> {
     pub(crate) counter: u32,
     pub(crate) opens: Batch,
     pub(crate) collected: Batch,
-    // the last sealed group: under way while it has a phase
-    pub(crate) group: Group,
-    pub(crate) phase: Option<Phase>,
+    // the sealed group while it is under way
+    pub(crate) group: Option<Group>,
     // the last number
     pub(crate) last: u32,
     ghost room: { home ≤ 4087 },
@@ -29,5 +26,4 @@ pub struct Live<D> {
     ghost below: { all_below home (map place_of (write_list collected)) ≡ true },
     ghost once: { none_twice (map place_of (write_list collected)) ≡ true },
     ghost places: { different home (map place_of (write_list collected) ++ map begun_place (begun_list opens)) ≤ 8 },
-    ghost turn: { fitting phase (length (entries group.writes)) ≡ true },
 }

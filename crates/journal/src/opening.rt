@@ -8,7 +8,6 @@ ghost use Rattle.journal.specs.Ends.{Starts, EndsIn};
 use crate::live::Live;
 use batch::rows::Batch;
 use disk::disk::BenchDisk;
-use group::group::Group;
 use journal_volume::cold::{Cold, KEPT_BLOCKS, Recovered};
 
 impl<D: BenchDisk> Live<D> {
@@ -25,11 +24,7 @@ impl<D: BenchDisk> Live<D> {
             counter: 0,
             opens: Batch::new(),
             collected: Batch::new(),
-            group: Group {
-                number,
-                writes: Batch::new(),
-            },
-            phase: None,
+            group: None,
             last: number,
         }
     }
@@ -47,7 +42,6 @@ impl<D: BenchDisk> Live<D> {
             opens: _,
             collected: _,
             group: _,
-            phase: _,
             last: _,
         } = self;
         disk.cut(choice);

@@ -15,15 +15,12 @@ use errors::{CacheCall, CacheError, during};
 impl<D: BenchDisk> Live<D> {
     // The bytes that the cache itself holds for the place.
     fn cached(&self, place: usize) -> Option<&[u8; BLOCK]>
-        ensures { maybe (option_map (λ b. b.now) result) ≡ cached place (write_list self.now.collected ++ group_writes (under_way self.now.group self.now.phase)) }
+        ensures { maybe (option_map (λ b. b.now) result) ≡ cached place (write_list self.now.collected ++ group_writes (under_way self.now.group)) }
     {
         if let Some(bytes) = self.collected.bytes_at(place) {
             return Some(bytes);
         }
-        if self.phase.is_some() {
-            return self.group.writes.bytes_at(place);
-        }
-        None
+        self.group.as_ref()?.writes.bytes_at(place)
     }
 
     // Fills the buffer with the place's block; a refusal leaves the buffer.
@@ -32,6 +29,7 @@ impl<D: BenchDisk> Live<D> {
         ensures buffer { buffer.new ≡ filled buffer.old (does D.Disk.medium D.Disk.rule D.Disk.attempts self.old (read_call place (length buffer.old))).answer }
         ensures runs { RunsOn (read_call place (length buffer.old)) (model D.Disk.medium self.old) (read_as result buffer.new) (model D.Disk.medium self.new) }
     {
+        // The disk fills a slice, so that its length is tested, and no block made of it.
         if buffer.len() != BLOCK {
             return Err(CacheError::Length);
         }

@@ -7,7 +7,6 @@ ghost use Rattle.journal.specs.Model.{model, does, stepped};
 use crate::live::Live;
 use disk::disk::BenchDisk;
 use errors::{CacheCall, CacheError, Progress, during};
-use group::making::make;
 use group::turn::advance;
 
 impl<D: BenchDisk> Live<D> {
@@ -16,16 +15,15 @@ impl<D: BenchDisk> Live<D> {
         ensures outcome { record { answer = stepped result; live = model D.Disk.medium self.new } ≡ does D.Disk.medium D.Disk.rule D.Disk.attempts self.old step_call }
         ensures runs { RunsOn step_call (model D.Disk.medium self.old) (stepped result) (model D.Disk.medium self.new) }
     {
-        let Some(phase) = self.phase else {
+        let Some(group) = &mut self.group else {
             return Ok(Progress::Idle);
         };
-        let blocks = self.group.writes.len();
-        let answer = during(
-            CacheCall::Step,
-            make(&mut self.disk, self.home, &self.group, phase),
-        );
-        let turn = advance(phase, blocks, answer)?;
-        self.phase = turn.phase;
+        let answer = during(CacheCall::Step, group.make(&mut self.disk, self.home));
+        let turn = advance(group.phase, group.writes.len(), answer)?;
+        match turn.phase {
+            Some(phase) => group.phase = phase,
+            None => self.group = None,
+        }
         Ok(turn.progress)
     }
 
@@ -35,8 +33,8 @@ impl<D: BenchDisk> Live<D> {
         ensures runs { RunsOn (restart_call choice) (model D.Disk.medium self.old) (accepted 0) (model D.Disk.medium self.new) }
     {
         self.disk.cut(choice);
-        if let Some(phase) = self.phase {
-            self.phase = Some(phase.restarted());
+        if let Some(group) = &mut self.group {
+            group.restart();
         }
     }
 }

@@ -1,6 +1,5 @@
 use disk::disk::{BLOCK, BenchDisk};
-use errors::{CacheError, VolumeError};
-use group::turn::Progress;
+use errors::{CacheError, Progress, VolumeError};
 use journal::live::Live;
 use journal_volume::cold::Cold;
 use std::test::Fail;

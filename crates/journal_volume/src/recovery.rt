@@ -47,6 +47,7 @@ pub(crate) fn copy_slots<D: Disk>(disk: &mut D, home: usize, head: &Head) -> Res
     requires fit { fitting home (head_of head.now) ≡ true }
     ensures { Goes (OfRule D.rule) D.attempts home (at (turn 0 (head_of head.now)) (D.medium disk.old)) (home_flush (head_of head.now)) result (D.medium disk.new) }
 {
+    // An index: the slot with this number is read.
     for i in 0..head.len() {
         copy_slot(disk, home, head, i)?;
     }

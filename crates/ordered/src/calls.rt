@@ -12,7 +12,7 @@ use precedence::Precedence;
 use table::held::{Change, Query, Version};
 use table::tally::Tally;
 
-// No mark lies above this.
+// No mark lies above this. The journaled cache says its own: no crate below both is about marks.
 pub const LAST_MARK: u32 = 1_000_000;
 
 impl<D: BenchDisk, P: Precedence> Live<D, P> {

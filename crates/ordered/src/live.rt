@@ -7,6 +7,7 @@ use disk::disk::BLOCK;
 use table::rows::Table;
 use table::tally::Counts;
 
+// Each call says that the order stays: what a caller says of its next call names it.
 #[derive(Drop)]
 pub struct Live<D, P> {
     pub(crate) disk: D,
@@ -24,6 +25,7 @@ pub struct Live<D, P> {
 }
 
 // Leave to write one row back. It is not `Drop`: whoever holds one has to settle it.
+// The bytes are a copy, since settling changes the table while the grant stands.
 pub(crate) struct Grant {
     pub(crate) row: usize,
     pub(crate) place: usize,

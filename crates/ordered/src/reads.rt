@@ -1,13 +1,10 @@
 // The read: the newest finished write of the place in the table, or else the disk.
 ghost use Rattle.std.specs.Prelude.{◌≡◌, length};
-ghost use Rattle.disk.specs.Calls.{fate, shows};
-ghost use Rattle.errors.specs.Errors.{raised};
-ghost use Rattle.errors.specs.declared.CacheCall.TheVariants as during_of;
 ghost use Rattle.ordered_law.specs.Events.{Read};
 ghost use Rattle.ordered_law.specs.Cache.{read_call};
 ghost use Rattle.ordered_law.specs.Runs.{RunsOn};
 ghost use Rattle.ordered.specs.Model.{model, gives, device};
-ghost use Rattle.ordered.specs.Reading.{read_as, read_answer, read_leaves, buffer_after, ReadsNewest};
+ghost use Rattle.ordered.specs.Reading.{read_as, buffer_after, ReadsNewest};
 
 use crate::live::Live;
 use disk::disk::{BLOCK, BenchDisk};
@@ -16,18 +13,6 @@ use precedence::Precedence;
 use table::scan::newest_at;
 
 impl<D: BenchDisk, P: Precedence> Live<D, P> {
-    fn read_disk(&mut self, place: usize, buffer: &mut [u8]) -> Result<(), CacheError>
-        ensures answer { result ≡ raised during_of.Read (read_answer D.Disk.attempts (D.Disk.medium self.old.disk) place (length buffer.old)) }
-        ensures medium { D.Disk.medium self.new.disk ≡ read_leaves (D.Disk.medium self.old.disk) place (length buffer.old) }
-        ensures buffer { buffer.new ≡ shows (D.Disk.medium self.old.disk) place buffer.old (fate (D.Disk.medium self.old.disk) place (length buffer.old)) }
-        ensures table { self.new.table ≡ self.old.table }
-        ensures order { self.new.order ≡ self.old.order }
-        ensures counter { self.new.counter ≡ self.old.counter }
-        ensures counts { self.new.counts ≡ self.old.counts }
-    {
-        during(CacheCall::Read, self.disk.read(place, buffer))
-    }
-
     // Fills the buffer with the place's block; a refusal leaves the buffer.
     pub fn read(&mut self, place: usize, buffer: &mut [u8]) -> Result<(), CacheError>
         ensures outcome { gives (read_as result buffer.new) (model D.Disk.medium self.new) ≡ read_call (device D.Disk.rule D.Disk.attempts P.before self.old) place (length buffer.old) (model D.Disk.medium self.old) }
@@ -36,6 +21,7 @@ impl<D: BenchDisk, P: Precedence> Live<D, P> {
         ensures order { self.new.order ≡ self.old.order }
         ensures runs { RunsOn (P.before self.old.order) (Read place (length buffer.old)) (model D.Disk.medium self.old) (read_as result buffer.new) (model D.Disk.medium self.new) }
     {
+        // A test, and no array by `try_from`: nothing below names the block by its type.
         if buffer.len() != BLOCK {
             return Err(CacheError::Length);
         }
@@ -46,6 +32,6 @@ impl<D: BenchDisk, P: Precedence> Live<D, P> {
             buffer.copy_from_slice(self.table.bytes(newest.row));
             return Ok(());
         }
-        self.read_disk(place, buffer)
+        during(CacheCall::Read, self.disk.read(place, buffer))
     }
 }

@@ -1,6 +1,8 @@
 // The step: pick, write, settle; or flush.
-ghost use Rattle.std.specs.Prelude.{◌≡◌};
+ghost use Rattle.std.specs.Prelude.{◌≡◌, ◌≤◌, length};
 ghost use Rattle.std.specs.Option.{option_map};
+ghost use Rattle.table.specs.Versions.{reserved};
+ghost use Rattle.table.specs.Rows.{in_rows};
 ghost use Rattle.table.specs.Scans.{lowest_ready};
 ghost use Rattle.ordered_law.specs.Events.{Step};
 ghost use Rattle.ordered_law.specs.Cache.{settled_rows, flushed_rows, flushed_counts, step_call};
@@ -16,7 +18,31 @@ use disk::error::DiskError;
 use errors::{CacheCall, CacheError, Progress, during};
 use precedence::Precedence;
 use table::held::{Change, Query};
+use table::rows::Table;
 use table::scan::lowest_ready;
+
+impl Grant {
+    // Spends the grant: an accepted write is sent, a failed one waits on. No other row changes.
+    fn settle(
+        self,
+        table: &mut Table,
+        answer: Result<(), DiskError>,
+    ) -> Result<Progress, CacheError>
+        ensures answer { result ≡ handed_up done.Written answer }
+        ensures rows { table.new.rows ≡ settled_rows table.old.rows self.row answer }
+        ensures marks { reserved (in_rows table.new.rows) ≤ reserved (in_rows table.old.rows) }
+        ensures held { length (in_rows table.new.rows) ≤ length (in_rows table.old.rows) }
+    {
+        let Grant {
+            row,
+            place: _,
+            bytes: _,
+        } = self;
+        during(CacheCall::Step, answer)?;
+        table.mark_sent(row);
+        Ok(Progress::Written)
+    }
+}
 
 impl<D: BenchDisk, P: Precedence> Live<D, P> {
     // The grant of the ready row of lowest begin mark.
@@ -29,29 +55,6 @@ impl<D: BenchDisk, P: Precedence> Live<D, P> {
             place: self.table.stamp(candidate.row).place,
             bytes: *self.table.bytes(candidate.row),
         })
-    }
-
-    // Spends the grant: an accepted write is sent, a failed one waits on. No other row changes.
-    fn settle(
-        &mut self,
-        grant: Grant,
-        answer: Result<(), DiskError>,
-    ) -> Result<Progress, CacheError>
-        ensures answer { result ≡ handed_up done.Written answer }
-        ensures rows { self.new.table.rows ≡ settled_rows self.old.table.rows grant.row answer }
-        ensures disk { self.new.disk ≡ self.old.disk }
-        ensures order { self.new.order ≡ self.old.order }
-        ensures counter { self.new.counter ≡ self.old.counter }
-        ensures counts { self.new.counts ≡ self.old.counts }
-    {
-        let Grant {
-            row,
-            place: _,
-            bytes: _,
-        } = grant;
-        during(CacheCall::Step, answer)?;
-        self.table.mark_sent(row);
-        Ok(Progress::Written)
     }
 
     // Flushes; then all sent writes are home, and leave the table.
@@ -82,7 +85,7 @@ impl<D: BenchDisk, P: Precedence> Live<D, P> {
         }
         if let Some(grant) = self.pick() {
             let answer = self.disk.write(grant.place, &grant.bytes);
-            return self.settle(grant, answer);
+            return grant.settle(&mut self.table, answer);
         }
         if !self.table.any(Query::Sent) {
             return Ok(Progress::Blocked);

@@ -1,6 +1,5 @@
 -- Every call keeps the table, the marks and the writes within their bounds.
-use Rattle.std.proofs.Common.{◌≡◌, ℕ, ◌+◌, ◌<◌, ◌≤◌, Bool, true, false, cond, not, ◌||◌, eqb, ltb, List, [], ◌∷◌, ◌++◌, map, length, filter, sym, refl, subst, arith}
-use mathlib.Core.Option.{Option, none, some}
+use Rattle.std.proofs.Common.{◌≡◌, ℕ, ◌+◌, ◌<◌, ◌≤◌, Bool, true, false, cond, not, ◌||◌, eqb, ltb, List, [], ◌∷◌, ◌++◌, map, length, filter, sym, refl, subst, arith, Option, None, Some}
 use Rattle.std.proofs.lemmas.List.{length-map, length_push}
 use Rattle.std.proofs.lemmas.Bool.{cond_both, both_ways}
 use Rattle.std.proofs.ByRecursion.{All-push, all_kept_by}
@@ -134,14 +133,14 @@ module _ (c : Sorted) (b : Within c) where
       (λ _. cond_both (not (ltb place (length c.medium.firm))) _ _ Good (λ _. b) (λ _. go (newest place c.table)))
     where
       go : (o : Option Version) → Good (sorted_through device place c o)
-      go (some v) = b
-      go none = cond_both (next_bad c.medium.plan) _ _ Good (λ _. same_table (passed c.medium) refl) (λ _. same_table (passed c.medium) refl)
+      go (Some v) = b
+      go None = cond_both (next_bad c.medium.plan) _ _ Good (λ _. same_table (passed c.medium) refl) (λ _. same_table (passed c.medium) refl)
 
   step_bounded : (precedes : Precedence) (device : Device) → Good (sorted_step precedes device c)
   step_bounded precedes device = cond_both (any_busy c.table) _ _ Good (λ _. go (chosen precedes c.table)) (λ _. b)
     where
       go : (o : Option Version) → Good (sorted_with device c o)
-      go (some v) = cond_both (next_bad c.medium.plan) _ _ Good (λ _. same_table (passed c.medium) refl)
+      go (Some v) = cond_both (next_bad c.medium.plan) _ _ Good (λ _. same_table (passed c.medium) refl)
           (λ _. map_table g (written device c.medium (write_of v)) size shut (λ u. refl) c.counter
           (let k = open_least g shut c.table in let m = b.marks in omega arith))
         where
@@ -157,7 +156,7 @@ module _ (c : Sorted) (b : Within c) where
               effect : (e : Effect) → length (take_effect e c.medium (write_of v)).firm ≡ length c.medium.firm
               effect join = refl
               effect settle = lay_length (c.medium.loose ++ write_of v ∷ []) c.medium.firm
-      go none = cond_both (any_sent c.table) _ _ Good
+      go None = cond_both (any_sent c.table) _ _ Good
           (λ _. cond_both (next_bad c.medium.plan) _ _ Good (λ _. same_table (passed c.medium) refl) (λ _. leave_table bring_home (flushed c.medium) (lay_length c.medium.loose c.medium.firm) (λ u h. grind arith) (λ u. refl)))
           (λ _. b)
 

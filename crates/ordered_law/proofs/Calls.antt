@@ -1,6 +1,5 @@
 -- Every call keeps the invariant.
-use Rattle.std.proofs.Common.{◌≡◌, ℕ, ◌+◌, ◌≤◌, Bool, true, false, cond, not, ◌&&◌, eqb, ltb, ◌⊎◌, List, [], ◌∷◌, ◌++◌, map, length, sym, refl, ap, ◌∙◌, subst, inl, inr, ⊎_elim, arith}
-use mathlib.Core.Option.{Option, none, some}
+use Rattle.std.proofs.Common.{◌≡◌, ℕ, ◌+◌, ◌≤◌, Bool, true, false, cond, not, ◌&&◌, eqb, ltb, ◌⊎◌, List, [], ◌∷◌, ◌++◌, map, length, sym, refl, ap, ◌∙◌, subst, inl, inr, ⊎_elim, arith, Option, None, Some}
 use Rattle.errors.specs.declared.CacheError.TheVariants as error
 use Rattle.std.proofs.lemmas.Bool.{eqb-true, both_ways, and_parts, not-true, cond_both}
 use Rattle.std.proofs.lemmas.Bool.Decides.{nat_tests}
@@ -141,13 +140,13 @@ module _ (precedes : Precedence) (lawful : Lawful precedes) (opening : List Bloc
       (λ _. cond_both (not (ltb place (length c.medium.firm))) _ _ (Good l (Read place size)) (λ _. i) (λ _. go (newest place c.table)))
     where
       go : (o : Option Version) → Good l (Read place size) (sorted_through device place c o)
-      go (some v) = i
-      go none = cond_both (next_bad c.medium.plan) _ _ (Good l (Read place size)) (λ _. keep_fault l c i) (λ _. keep_fault l c i)
+      go (Some v) = i
+      go None = cond_both (next_bad c.medium.plan) _ _ (Good l (Read place size)) (λ _. keep_fault l c i) (λ _. keep_fault l c i)
 
   -- ---- step
 
   -- the chosen write waits, and is released
-  pub chosen_is : (l : List Version) (v : Version) → chosen precedes (held l) ≡ some v → In v l × (is_waiting v.state ≡ true) × Released precedes l v
+  pub chosen_is : (l : List Version) (v : Version) → chosen precedes (held l) ≡ Some v → In v l × (is_waiting v.state ≡ true) × Released precedes l v
   chosen_is l v e =
       let found = first_in (ready precedes (held l)) v (held l) e in
       let parts = and_parts (is_waiting v.state) (free precedes (held l) v) found.1 in (
@@ -159,7 +158,7 @@ module _ (precedes : Precedence) (lawful : Lawful precedes) (opening : List Bloc
         },
       )
 
-  wrote : (device : Device) (l : List Version) (c : Sorted) (v : Version) (i : Kept l c) → chosen precedes (held l) ≡ some v →
+  wrote : (device : Device) (l : List Version) (c : Sorted) (v : Version) (i : Kept l c) → chosen precedes (held l) ≡ Some v →
       Wrote precedes lawful opening c.counter l i.book c.medium i.store v (written device c.medium (write_of v))
   wrote device l c v i e =
       let p = chosen_is l v e in
@@ -167,7 +166,7 @@ module _ (precedes : Precedence) (lawful : Lawful precedes) (opening : List Bloc
       stored_write precedes lawful opening c.counter l i.book device c.medium i.store v p.0 a p.2
 
   -- the ledger marks v sent, whose write has taken effect
-  keep_marked : (l : List Version) (c : Sorted) (v : Version) (i : Kept l c) → chosen precedes (held l) ≡ some v → plus i.store.kept i.store.due v.stamp.begin ≡ true →
+  keep_marked : (l : List Version) (c : Sorted) (v : Version) (i : Kept l c) → chosen precedes (held l) ≡ Some v → plus i.store.kept i.store.due v.stamp.begin ≡ true →
       Kept (map (send_one v.stamp.begin) l) (record { medium = c.medium; table = map (send_one v.stamp.begin) c.table; counter = c.counter; counts = c.counts })
   keep_marked l c v i e firm = record {
     table_is = ap (map g) i.table_is ∙ sym (held_map g (λ u. grind arith) l);
@@ -212,17 +211,17 @@ module _ (precedes : Precedence) (lawful : Lawful precedes) (opening : List Bloc
       Kept (map bring_home l) (record { medium = c.medium; table = held (map bring_home c.table); counter = c.counter; counts = c.counts })
   keep_homed l c i firm stay = record {
     table_is = ap (λ (x : List Version). held (map bring_home x)) i.table_is ∙ held_again bring_home (λ v h. grind arith) l;
-    book = book_change precedes n bring_home (home_change precedes n) l i.book.sound n (sound_home n) i.book.order (all_of _ l (λ v j h. absurd (none v h)));
+    book = book_change precedes n bring_home (home_change precedes n) l i.book.sound n (sound_home n) i.book.order (all_of _ l (λ v j h. absurd (None v h)));
     store = stored_change precedes n bring_home (home_change precedes n) l i.book.sound opening n c.medium.firm c.medium.loose (omega arith) i.store
         (all_both _ _ _ (λ v s h e. ⊎_elim s h (cases v.state e)) l firm i.store.firm_ok.home_in) stay;
-    sent_in = all_map (λ _. Unit {0}) _ bring_home (λ v _ h. absurd (none v h)) l (all_of _ l (λ _ _. tt));
+    sent_in = all_map (λ _. Unit {0}) _ bring_home (λ v _ h. absurd (None v h)) l (all_of _ l (λ _ _. tt));
   }
     where
       n : ℕ
       n = c.counter
 
-      none : (v : Version) → is_sent (bring_home v).state ≡ true → ⊥
-      none v h = grind arith
+      None : (v : Version) → is_sent (bring_home v).state ≡ true → ⊥
+      None v h = grind arith
 
       cases : (s : State) → cond (is_sent s) Home s ≡ Home → (is_sent s ≡ true) ⊎ (s ≡ Home)
       cases Open e = inr e
@@ -239,15 +238,15 @@ module _ (precedes : Precedence) (lawful : Lawful precedes) (opening : List Bloc
   keep_step device l c i = cond_both (any_busy c.table) _ _ (Good l Step) (λ _. go (chosen precedes c.table) refl) (λ _. i)
     where
       go : (o : Option Version) → chosen precedes c.table ≡ o → Good l Step (sorted_with device c o)
-      go (some v) e =
-          let q : chosen precedes (held l) ≡ some v = ap (chosen precedes) (sym i.table_is) ∙ e in
+      go (Some v) e =
+          let q : chosen precedes (held l) ≡ Some v = ap (chosen precedes) (sym i.table_is) ∙ e in
           let w = wrote device l c v i q in
           let m : Medium = written device c.medium (write_of v) in
           let after_write : Kept l (record { medium = m; table = c.table; counter = c.counter; counts = c.counts }) = keep_medium l c i m w.then w.grows in
           cond_both (next_bad c.medium.plan) _ _ (Good l Step) (λ _. keep_fault l c i)
           (λ _. subst (λ (o : Option Version). Kept (send_chosen l o) (record { medium = m; table = map (send_one v.stamp.begin) c.table; counter = c.counter; counts = c.counts }))
           (sym q) (keep_marked l (record { medium = m; table = c.table; counter = c.counter; counts = c.counts }) v after_write q w.has))
-      go none e = cond_both (any_sent c.table) _ _ (Good l Step)
+      go None e = cond_both (any_sent c.table) _ _ (Good l Step)
           (λ _. cond_both (next_bad c.medium.plan) _ _ (Good l Step) (λ _. keep_fault l c i) (λ _. keep_flush l c i))
           (λ _. i)
 
@@ -260,17 +259,17 @@ module _ (precedes : Precedence) (lawful : Lawful precedes) (opening : List Bloc
   keep_restart : (l : List Version) (c : Sorted) (choice : ℕ) → Kept l c → Good l (Restart choice) (sorted_restart choice c)
   keep_restart l c choice i = record {
     table_is = ap (map wait_again) i.table_is ∙ sym (held_map wait_again (λ v. grind arith) l);
-    book = book_change precedes n wait_again (wait_change precedes n) l i.book.sound n (sound_wait n) i.book.order (all_of _ l (λ v j h. absurd (none v h)));
+    book = book_change precedes n wait_again (wait_change precedes n) l i.book.sound n (sound_wait n) i.book.order (all_of _ l (λ v j h. absurd (None v h)));
     store = stored_change precedes n wait_again (wait_change precedes n) l i.book.sound opening n _ _ (omega arith) (cut_store l c i choice)
         (All-weaker _ _ (λ v h e. h (grind arith)) l (cut_store l c i choice).firm_ok.home_in) tt;
-    sent_in = all_map (λ _. Unit {0}) _ wait_again (λ v _ h. absurd (none v h)) l (all_of _ l (λ _ _. tt));
+    sent_in = all_map (λ _. Unit {0}) _ wait_again (λ v _ h. absurd (None v h)) l (all_of _ l (λ _ _. tt));
   }
     where
       n : ℕ
       n = c.counter
 
-      none : (v : Version) → is_sent (wait_again v).state ≡ true → ⊥
-      none v h = grind arith
+      None : (v : Version) → is_sent (wait_again v).state ≡ true → ⊥
+      None v h = grind arith
 
   pub keep_call : (device : Device) (call : Call) (l : List Version) (c : Sorted) → Kept l c → Good l call (sorted_outcome precedes device call c)
   keep_call device (Begin place bytes) l c i = keep_begin l c place bytes i
@@ -295,8 +294,8 @@ module _ (precedes : Precedence) (lawful : Lawful precedes) (opening : List Bloc
   step_within device l c i = cond_both (any_busy c.table) _ _ (Left l c) (λ _. go (chosen precedes c.table) refl) (λ _. i.store)
     where
       go : (o : Option Version) → chosen precedes c.table ≡ o → Left l c (sorted_with device c o)
-      go (some v) e = let w = wrote device l c v i (ap (chosen precedes) (sym i.table_is) ∙ e) in cond_both (next_bad c.medium.plan) _ _ (Left l c) (λ _. i.store) (λ _. w.then)
-      go none e = cond_both (any_sent c.table) _ _ (Left l c)
+      go (Some v) e = let w = wrote device l c v i (ap (chosen precedes) (sym i.table_is) ∙ e) in cond_both (next_bad c.medium.plan) _ _ (Left l c) (λ _. i.store) (λ _. w.then)
+      go None e = cond_both (any_sent c.table) _ _ (Left l c)
           (λ _. cond_both (next_bad c.medium.plan) _ _ (Left l c) (λ _. i.store) (λ _. flushed_store l c i)) (λ _. i.store)
 
   call_within : (device : Device) (call : Call) (l : List Version) (c : Sorted) (i : Kept l c) → Left l c (sorted_outcome precedes device call c)
@@ -307,8 +306,8 @@ module _ (precedes : Precedence) (lawful : Lawful precedes) (opening : List Bloc
       (λ _. cond_both (not (ltb place (length c.medium.firm))) _ _ (Left l c) (λ _. i.store) (λ _. go (newest place c.table)))
     where
       go : (o : Option Version) → Left l c (sorted_through device place c o)
-      go (some v) = i.store
-      go none = cond_both (next_bad c.medium.plan) _ _ (Left l c) (λ _. i.store) (λ _. i.store)
+      go (Some v) = i.store
+      go None = cond_both (next_bad c.medium.plan) _ _ (Left l c) (λ _. i.store) (λ _. i.store)
   call_within device Step l c i = step_within device l c i
   call_within device Count l c i = i.store
   call_within device (Restart choice) l c i = cut_store l c i choice

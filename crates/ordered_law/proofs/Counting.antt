@@ -1,6 +1,5 @@
 -- The cache's counts are the ledger's.
-use Rattle.std.proofs.Common.{◌≡◌, ℕ, ◌+◌, Bool, true, false, cond, not, ◌||◌, eqb, ltb, ◌⊎◌, List, [], ◌∷◌, ◌++◌, map, length, filter, sym, refl, ap, ◌∙◌, subst, inl, inr, arith}
-use mathlib.Core.Option.{Option, none, some}
+use Rattle.std.proofs.Common.{◌≡◌, ℕ, ◌+◌, Bool, true, false, cond, not, ◌||◌, eqb, ltb, ◌⊎◌, List, [], ◌∷◌, ◌++◌, map, length, filter, sym, refl, ap, ◌∙◌, subst, inl, inr, arith, Option, None, Some}
 use Rattle.std.specs.List.{AllByRecursion}
 use Rattle.std.proofs.lemmas.List.{length-map, length_push}
 use Rattle.std.proofs.lemmas.Bool.{cond_both, both_ways, and_parts, eqb-true, or_left, or_right, or_cases}
@@ -136,10 +135,10 @@ module _ (precedes : Precedence) (opening : List Block) (l : List Version) (c : 
   count_step device = cond_both (any_busy c.table) _ _ (Good Step) (λ _. go (chosen precedes c.table) refl) (λ _. r)
     where
       go : (o : Option Version) → chosen precedes c.table ≡ o → Good Step (sorted_with device c o)
-      go (some v) e = cond_both (next_bad c.medium.plan) _ _ (Good Step) (λ _. r)
+      go (Some v) e = cond_both (next_bad c.medium.plan) _ _ (Good Step) (λ _. r)
           (λ _. subst (λ (o : Option Version). Right (send_chosen l o) c.counts) (sym (ap (chosen precedes) (sym i.table_is) ∙ e))
           (right_map (send_one v.stamp.begin) (λ u. grind arith) (λ u. grind arith) l c.counts r))
-      go none e = cond_both (any_sent c.table) _ _ (Good Step)
+      go None e = cond_both (any_sent c.table) _ _ (Good Step)
           (λ _. cond_both (next_bad c.medium.plan) _ _ (Good Step) (λ _. r)
           (λ _. record {
             begun_is = r.begun_is ∙ sym (length-map l bring_home);
@@ -155,8 +154,8 @@ module _ (precedes : Precedence) (opening : List Block) (l : List Version) (c : 
   count_read device place size = cond_both (not (eqb size 512)) _ _ (Good (Read place size)) (λ _. r) (λ _. cond_both (not (ltb place (length c.medium.firm))) _ _ (Good (Read place size)) (λ _. r) (λ _. go (newest place c.table)))
     where
       go : (o : Option Version) → Good (Read place size) (sorted_through device place c o)
-      go (some v) = r
-      go none = cond_both (next_bad c.medium.plan) _ _ (Good (Read place size)) (λ _. r) (λ _. r)
+      go (Some v) = r
+      go None = cond_both (next_bad c.medium.plan) _ _ (Good (Read place size)) (λ _. r) (λ _. r)
 
   count_call : (device : Device) (call : Call) → Good call (sorted_outcome precedes device call c)
   count_call device (Begin place bytes) = unless_both (sorted_refusal place bytes c) _ _ (Good (Begin place bytes))

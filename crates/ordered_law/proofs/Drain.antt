@@ -1,6 +1,5 @@
 -- With none open, steps in a row bring every finished write home.
-use Rattle.std.proofs.Common.{◌≡◌, ℕ, zero, suc, ◌+◌, ◌*◌, ◌<◌, ◌≤◌, Bool, true, false, cond, ◌&&◌, ◌||◌, eqb, ◌≢◌, ◌⊎◌, List, [], ◌∷◌, ◌++◌, map, length, filter, sym, refl, ap, ◌∙◌, subst, inl, inr, arith}
-use mathlib.Core.Option.{Option, none, some}
+use Rattle.std.proofs.Common.{◌≡◌, ℕ, zero, suc, ◌+◌, ◌*◌, ◌<◌, ◌≤◌, Bool, true, false, cond, ◌&&◌, ◌||◌, eqb, ◌≢◌, ◌⊎◌, List, [], ◌∷◌, ◌++◌, map, length, filter, sym, refl, ap, ◌∙◌, subst, inl, inr, arith, Option, None, Some}
 use Rattle.disk.specs.declared.error.Kind.TheVariants as kind
 use Rattle.errors.specs.declared.CacheError.{CacheError}
 use Rattle.errors.specs.declared.CacheCall.TheVariants as during
@@ -11,6 +10,7 @@ use Rattle.disk.specs.Medium.{Block, Entry, good, bad, Medium, Effect, join, set
 use Rattle.table.specs.declared.held.State.{State}
 use Rattle.table.specs.declared.held.State.TheVariants.{Open, Waiting, Sent, Home, Withdrawn}
 use Rattle.table.specs.declared.held.Version.{Version}
+use Rattle.std.specs.List.{find}
 use Rattle.ordered_law.proofs.Lists.{In, here, there, pairs_kept, all_both, all_map, in_kept, none_pass, first_in}
 use Rattle.ordered_law.proofs.Invariant.{Sound, Before, Keeps, valid}
 use Rattle.ordered_law.proofs.Calls.{keep_calls, at_start, ledger_of}
@@ -21,7 +21,7 @@ use Rattle.ordered_law.specs.Promise.{write_of, Pairs, bads, unhomed}
 use Rattle.ordered_law.specs.Events.{Step}
 use Rattle.ordered_law.specs.Cache.{any_sent, any_busy}
 use Rattle.table.specs.Versions.{live, is_waiting, is_sent, finished, some_pass, send_one, bring_home, free, ready, held}
-use Rattle.ordered_law.specs.Ledger.{first, chosen, note, send_chosen, replay}
+use Rattle.ordered_law.specs.Ledger.{chosen, note, send_chosen, replay}
 
 -- the steps that a version still takes: its write and its flush
 abbrev weight : State → ℕ
@@ -113,10 +113,10 @@ all_home (v ∷ l) e = (home v.state (omega arith), all_home l (omega arith))
 -- ---- a busy cache with none open is never blocked
 
 not_blocked : (precedes : Precedence) → Lawful precedes → (n : ℕ) (table : List Version) → Pairs Before table → AllByRecursion (Sound n) table → AllByRecursion (λ v. is_waiting v.state ≡ true) table →
-    some_pass busy table ≡ true → chosen precedes table ≡ none → ⊥
+    some_pass busy table ≡ true → chosen precedes table ≡ None → ⊥
 not_blocked precedes lawful n [] p s w b e = both_ways false refl b
 not_blocked precedes lawful n (x ∷ table) p s w b e = let r : ready precedes (x ∷ table) x ≡ true = and_from _ _ w.0 (not_from_false _ unpreceded) in
-    let q : some x ≡ none = sym (cond-true (ready precedes (x ∷ table) x) (some x) (first (ready precedes (x ∷ table)) table) r) ∙ e in
+    let q : Some x ≡ None = sym (cond-true (ready precedes (x ∷ table) x) (Some x) (find (ready precedes (x ∷ table)) table) r) ∙ e in
     let z : ◌≡◌ {A = ℕ} 0 1 = cc in omega arith
   where
     never : (u : Version) → Sound n u → x.stamp.begin ≤ u.stamp.begin → (k : Bool) → precedes u.stamp x.stamp ≡ k → precedes u.stamp x.stamp ≡ false
@@ -152,11 +152,11 @@ module _ (precedes : Precedence) (lawful : Lawful precedes) where
       faulted x e = (omega (arith, bads_bad c.medium.plan e), shut)
 
       go : (o : Option Version) → chosen precedes c.table ≡ o → Closer l c (sorted_with device c o)
-      go (some v) e = cond_both (next_bad c.medium.plan) _ _ (Closer l c) (faulted (failed_call during.Step kind.Write v.stamp.place device.tries))
+      go (Some v) e = cond_both (next_bad c.medium.plan) _ _ (Closer l c) (faulted (failed_call during.Step kind.Write v.stamp.place device.tries))
           (λ _. subst (λ (o : Option Version). (load (send_chosen l o) + bads after_write.plan < load l + bads c.medium.plan) × NoneOpen (send_chosen l o)) (sym q)
           (omega (arith, load_less g (λ u. lighter u) v l inside falls, plan), all_map _ _ g (λ u h k. h (grind arith)) l shut))
         where
-          q : chosen precedes (held l) ≡ some v
+          q : chosen precedes (held l) ≡ Some v
           q = ap (chosen precedes) (sym i.table_is) ∙ e
 
           after_write : Medium
@@ -190,7 +190,7 @@ module _ (precedes : Precedence) (lawful : Lawful precedes) where
               let h = (and_parts (is_waiting v.state) (free precedes (held l) v) found.1).0 in
               let k = eq-eqb v.stamp.begin v.stamp.begin refl in
               grind arith
-      go none e = cond_both (any_sent c.table) _ _ (Closer l c)
+      go None e = cond_both (any_sent c.table) _ _ (Closer l c)
           (λ s. cond_both (next_bad c.medium.plan) _ _ (Closer l c) (faulted (failed_call during.Step kind.Flush 0 device.tries)) (λ _. flush s))
           (λ s. absurd (not_blocked precedes lawful c.counter (held l) (pairs_kept Before (λ v. live v.state) l i.book.order) (all_kept_by (λ v. live v.state) (Sound c.counter) l i.book.sound)
           (waits (ap any_sent (sym i.table_is) ∙ s)) (ap any_busy (sym i.table_is) ∙ b) (ap (chosen precedes) (sym i.table_is) ∙ e)))

@@ -1,6 +1,5 @@
 -- The cache of rows answers as the cache whose table stands in the order of begin marks.
 use Rattle.std.proofs.Common.{◌≡◌, ℕ, ◌+◌, ◌<◌, ◌≤◌, Bool, true, false, cond, not, ◌&&◌, ◌||◌, eqb, ltb, ◌≢◌, List, [], ◌∷◌, map, length, get_or, Some, None, filter, Option, sym, refl, ap, ◌∙◌, subst, ap₂, arith}
-use mathlib.Core.Option as option
 use mathlib.Core.Path.{fun_ext}
 use Rattle.std.specs.List.{AllByRecursion}
 use Rattle.std.proofs.lemmas.List.{length-map}
@@ -17,6 +16,7 @@ use Rattle.errors.specs.declared.CacheError.{CacheError}
 use Rattle.table.specs.declared.scan.Candidate.{Candidate}
 use Rattle.errors.specs.declared.CacheCall.TheVariants as during
 use Rattle.errors.specs.declared.CacheError.TheVariants as error
+use Rattle.std.specs.List.{find}
 use Rattle.ordered_law.proofs.Lists.{all_map, pairs_map, pairs_kept}
 use Rattle.ordered_law.proofs.Refusals.{accepted}
 use Rattle.ordered_law.proofs.Bounding.{Within}
@@ -24,7 +24,7 @@ use Rattle.ordered_law.proofs.Sorting.{in_order, in_order_length, in_order_some,
 use Rattle.ordered_law.proofs.Sorted.{is_bad, failed_call, written, Sorted, SortedOutcome, fault, sorted_refusal, sorted_begin, sorted_finish, sorted_withdraw, sorted_read, sorted_through, sorted_send, sorted_with, sorted_step, sorted_outcome}
 use Rattle.precedence.specs.Stamps.{Precedence}
 use Rattle.table.specs.Versions.{live, reserves, is_open, is_waiting, is_sent, some_pass, count, held, has_ticket, begun, finish_one, withdraw_one, send_one, bring_home, wait_again, ready, finished_in}
-use Rattle.ordered_law.specs.Ledger.{first, chosen}
+use Rattle.ordered_law.specs.Ledger.{chosen}
 use Rattle.std.specs.Option.{option_map}
 use Rattle.table.specs.Rows.{Row, in_rows, bytes_of, put, keeping, change, leave}
 use Rattle.table.proofs.Rowing.{some_vacant, room_is}
@@ -168,7 +168,7 @@ module _ (c : Cache) (fit : Fit c) (bounded : Within (model_of c)) where
   chosen_same : (precedes : Precedence) → lowest (ready precedes H) H ≡ chosen precedes T
   chosen_same precedes =
       sym (in_order_first (ready precedes H) H)
-      ∙ ap (λ (p : Version → Bool). first p T) (fun_ext (λ v. ap (λ b. is_waiting v.state && not b) (some_same (λ u. precedes u.stamp v.stamp))))
+      ∙ ap (λ (p : Version → Bool). find p T) (fun_ext (λ v. ap (λ b. is_waiting v.state && not b) (some_same (λ u. precedes u.stamp v.stamp))))
 
   begin_follows : (place : ℕ) (bytes : Block) → Follows (begin_call place bytes c) (sorted_begin place bytes (model_of c))
   begin_follows place bytes = follow_unless _ _ _ _ _ _ (refusal_same place bytes)
@@ -209,7 +209,7 @@ module _ (c : Cache) (fit : Fit c) (bounded : Within (model_of c)) where
   read_follows : (device : Device) (place size : ℕ) → Follows (read_call device place size c) (sorted_read device place size (model_of c))
   read_follows device place size = follow_cond (not (eqb size 512)) _ _ _ _ _ refl (λ _. same (refused error.Length))
       (λ whole. follow_cond (not (ltb place (length c.medium.firm))) _ _ _ _ _ refl (λ _. same (refused error.Place))
-      (λ within. subst (λ (o : option.Option Version). Follows (read_through device place size c (newest_at place c.rows)) (sorted_through device place (model_of c) o)) (sym (in_order_last wanted H))
+      (λ within. subst (λ (o : Option Version). Follows (read_through device place size c (newest_at place c.rows)) (sorted_through device place (model_of c) o)) (sym (in_order_last wanted H))
       (go (passes place size (eqb-true size 512 (not-false (eqb size 512) whole)) (ltb-true place (length c.medium.firm) (not-false (ltb place (length c.medium.firm)) within)))
       (newest_at place c.rows) (highest wanted H) (finds_highest wanted c.rows))))
     where
@@ -220,15 +220,15 @@ module _ (c : Cache) (fit : Fit c) (bounded : Within (model_of c)) where
       read_by good = passed_by _ _
       read_by bad = passed_by _ _
 
-      go : fate c.medium place size ≡ by_entry (due c.medium.plan) → (o : Option Candidate) (x : option.Option Version) → Finds wanted c.rows o x → Follows (read_through device place size c o) (sorted_through device place (model_of c) x)
-      go met None option.none f = subst (λ (m : Fate). Follows (read_disk device place c m) (sorted_through device place (model_of c) option.none)) (sym met) (read_by (due c.medium.plan))
-      go met None (option.some v) f = absurd f
-      go met (Some n) option.none f = absurd f
-      go met (Some n) (option.some v) f = subst (λ (r : Row). Follows (record { answer = shown (bytes_of r); cache = c }) (record { answer = shown v.bytes; cache = model_of c })) (sym f.1) (same (shown v.bytes))
+      go : fate c.medium place size ≡ by_entry (due c.medium.plan) → (o : Option Candidate) (x : Option Version) → Finds wanted c.rows o x → Follows (read_through device place size c o) (sorted_through device place (model_of c) x)
+      go met None None f = subst (λ (m : Fate). Follows (read_disk device place c m) (sorted_through device place (model_of c) None)) (sym met) (read_by (due c.medium.plan))
+      go met None (Some v) f = absurd f
+      go met (Some n) None f = absurd f
+      go met (Some n) (Some v) f = subst (λ (r : Row). Follows (record { answer = shown (bytes_of r); cache = c }) (record { answer = shown v.bytes; cache = model_of c })) (sym f.1) (same (shown v.bytes))
 
   step_follows : (precedes : Precedence) (device : Device) → Follows (step_call precedes device c) (sorted_step precedes device (model_of c))
   step_follows precedes device = follow_cond _ _ _ _ _ _ (some_same (λ v. is_waiting v.state || is_sent v.state))
-      (λ _. subst (λ (o : option.Option Version). Follows (step_with device c (lowest_ready precedes c.rows)) (sorted_with device (model_of c) o)) (chosen_same precedes)
+      (λ _. subst (λ (o : Option Version). Follows (step_with device c (lowest_ready precedes c.rows)) (sorted_with device (model_of c) o)) (chosen_same precedes)
       (go (lowest_ready precedes c.rows) (lowest (ready precedes H) H) (finds_lowest (ready precedes H) c.rows)))
       (λ _. same (took 0))
     where
@@ -240,11 +240,11 @@ module _ (c : Cache) (fit : Fit c) (bounded : Within (model_of c)) where
       send_by i v at w good = rw (marks_one c.rows i v at w fit.distinct) (changed _ _ c.counter (send_one v.stamp.begin) (λ u. refl) (omega arith))
       send_by i v at w bad = passed_by _ _
 
-      go : (o : Option Candidate) (x : option.Option Version) → Finds (ready precedes H) c.rows o x → Follows (step_with device c o) (sorted_with device (model_of c) x)
-      go None option.none f = follow_cond _ _ _ _ _ _ (some_same (λ v. is_sent v.state)) (λ _. flush_by (due c.medium.plan)) (λ _. same (took 3))
-      go None (option.some v) f = absurd f
-      go (Some n) option.none f = absurd f
-      go (Some n) (option.some v) (within, at, begins, is_ready) =
+      go : (o : Option Candidate) (x : Option Version) → Finds (ready precedes H) c.rows o x → Follows (step_with device c o) (sorted_with device (model_of c) x)
+      go None None f = follow_cond _ _ _ _ _ _ (some_same (λ v. is_sent v.state)) (λ _. flush_by (due c.medium.plan)) (λ _. same (took 3))
+      go None (Some v) f = absurd f
+      go (Some n) None f = absurd f
+      go (Some n) (Some v) (within, at, begins, is_ready) =
           let fits = all_at (Fitting (length c.medium.firm)) c.rows n.row v at (all_from_order (Fitting (length c.medium.firm)) H bounded.fitting) in
           subst (λ (r : Row). Follows (send_call device n.row r c) (sorted_send device v (model_of c))) (sym at)
           (subst (λ (met : Fate). Follows (send_meeting device n.row (Some v) c met) (sorted_send device v (model_of c))) (sym (passes v.stamp.place (length v.bytes) fits.1 fits.0))

@@ -1,15 +1,14 @@
 -- Lists of versions: membership, pairs in order, what a filter and a map do to each other.
-use Rattle.std.proofs.Common.{◌≡◌, ℕ, ◌/◌, ◌%◌, Bool, true, false, cond, eqb, ◌⊎◌, List, [], ◌∷◌, ◌++◌, map, length, set, filter, sym, refl, ap, ◌∙◌, subst, inl, inr, arith}
-use mathlib.Core.Option.{some}
+use Rattle.std.proofs.Common.{◌≡◌, ℕ, ◌/◌, ◌%◌, Bool, true, false, cond, eqb, ◌⊎◌, List, [], ◌∷◌, ◌++◌, map, length, set, filter, sym, refl, ap, ◌∙◌, subst, inl, inr, arith, Some}
 use Rattle.std.specs.List.{AllByRecursion}
 use Rattle.std.proofs.ByRecursion.{All-weaker, all_kept_by}
 use Rattle.std.proofs.lemmas.Bool.{both_ways, cond_both}
 use Rattle.disk.specs.Medium.{Block, Write, lay, standing}
 use Rattle.std.proofs.lemmas.List.{length-set}
 use Rattle.table.specs.declared.held.Version.{Version}
+use Rattle.std.specs.List.{find}
 use Rattle.ordered_law.specs.Promise.{write_of, kept_writes, Pairs}
 use Rattle.table.specs.Versions.{live, some_pass, held}
-use Rattle.ordered_law.specs.Ledger.{first}
 
 pub data In (v : Version) : List Version → Type 0 where
   here : {vs : List Version} → In v (v ∷ vs)
@@ -133,11 +132,11 @@ none_pass p q (v ∷ l) e = go (p v) refl e (none_pass p q l)
     go true b e ih = ((λ _. grind arith), ih (grind arith))
     go false b e ih = ((λ h. grind arith), ih e)
 
-pub first_in : (p : Version → Bool) (v : Version) (l : List Version) → first p l ≡ some v → In v l × (p v ≡ true)
+pub first_in : (p : Version → Bool) (v : Version) (l : List Version) → find p l ≡ Some v → In v l × (p v ≡ true)
 first_in p v [] e = absurd (let z : ◌≡◌ {A = ℕ} 0 1 = cc in omega arith)
 first_in p v (u ∷ l) e = go (p u) refl e (first_in p v l)
   where
-    go : (b : Bool) → p u ≡ b → cond b (some u) (first p l) ≡ some v → (first p l ≡ some v → In v l × (p v ≡ true)) → In v (u ∷ l) × (p v ≡ true)
+    go : (b : Bool) → p u ≡ b → cond b (Some u) (find p l) ≡ Some v → (find p l ≡ Some v → In v l × (p v ≡ true)) → In v (u ∷ l) × (p v ≡ true)
     go true b e ih = let s : u ≡ v = cc in subst (λ (x : Version). In x (u ∷ l) × (p x ≡ true)) s (here, b)
     go false b e ih = let r = ih e in (there r.0, r.1)
 

@@ -1,6 +1,5 @@
 -- A scan over the rows finds the row of the version that the definition picks; and marking that row is marking that version.
 use Rattle.std.proofs.Common.{◌≡◌, ℕ, zero, suc, ◌+◌, ◌<◌, Bool, true, false, cond, ◌&&◌, eqb, ltb, ◌≢◌, List, [], ◌∷◌, length, get_or, drop, set, Some, None, Option, sym, refl, ap, ◌∙◌, subst, ap₂, add-one, arith}
-use mathlib.Core.Option as option
 use Rattle.std.specs.List.{AllByRecursion}
 use Rattle.std.proofs.lemmas.Bool.{ltb-true, ltb-false, lt-ltb, le-ltb}
 use Rattle.std.proofs.lemmas.Bool.Decides.{nat_tests}
@@ -14,24 +13,24 @@ use Rattle.table.specs.Scans.{candidate, lower_of, higher_of, best_from}
 use Rattle.ordered_law.specs.Promise.{Pairs}
 
 -- of two, that of lower or of higher begin mark
-abbrev pub lower : Version → option.Option Version → Version
-lower v option.none = v
-lower v (option.some u) = cond (ltb v.stamp.begin u.stamp.begin) v u
+abbrev pub lower : Version → Option Version → Version
+lower v None = v
+lower v (Some u) = cond (ltb v.stamp.begin u.stamp.begin) v u
 
-abbrev pub higher : Version → option.Option Version → Version
-higher v option.none = v
-higher v (option.some u) = cond (ltb v.stamp.begin u.stamp.begin) u v
+abbrev pub higher : Version → Option Version → Version
+higher v None = v
+higher v (Some u) = cond (ltb v.stamp.begin u.stamp.begin) u v
 
 -- the best of those that pass, by a choice between one and what the rest gives
-abbrev pub best_of : (Version → option.Option Version → Version) → (Version → Bool) → List Version → option.Option Version
-best_of pick p [] = option.none
-best_of pick p (v ∷ vs) = cond (p v) (option.some (pick v (best_of pick p vs))) (best_of pick p vs)
+abbrev pub best_of : (Version → Option Version → Version) → (Version → Bool) → List Version → Option Version
+best_of pick p [] = None
+best_of pick p (v ∷ vs) = cond (p v) (Some (pick v (best_of pick p vs))) (best_of pick p vs)
 
 -- of those that pass, that of lowest or of highest begin mark
-abbrev pub lowest : (Version → Bool) → List Version → option.Option Version
+abbrev pub lowest : (Version → Bool) → List Version → Option Version
 lowest p vs = best_of lower p vs
 
-abbrev pub highest : (Version → Bool) → List Version → option.Option Version
+abbrev pub highest : (Version → Bool) → List Version → Option Version
 highest p vs = best_of higher p vs
 
 differ : {A : Type 0} {v : Version} → None ≡ Some v → A
@@ -48,54 +47,54 @@ at_drop (x ∷ table) zero r rest e = (omega arith, cc, cc)
 at_drop (x ∷ table) (suc i) r rest e = let h = at_drop table i r rest e in (omega (arith, h.0), h.1, h.2)
 
 -- the candidate's row holds the version, which passes
-abbrev pub Finds : (Version → Bool) → List Row → Option Candidate → option.Option Version → Type 0
-Finds p table None option.none = Unit {0}
-Finds p table None (option.some v) = ⊥
-Finds p table (Some n) option.none = ⊥
-Finds p table (Some n) (option.some v) = (n.row < length table) × (get_or table n.row None ≡ Some v) × (n.begin ≡ v.stamp.begin) × (p v ≡ true)
+abbrev pub Finds : (Version → Bool) → List Row → Option Candidate → Option Version → Type 0
+Finds p table None None = Unit {0}
+Finds p table None (Some v) = ⊥
+Finds p table (Some n) None = ⊥
+Finds p table (Some n) (Some v) = (n.row < length table) × (get_or table n.row None ≡ Some v) × (n.begin ≡ v.stamp.begin) × (p v ≡ true)
 
-module _ (pick : Version → option.Option Version → Version) where
+module _ (pick : Version → Option Version → Version) where
   -- what was found so far, and what the rest gives
-  abbrev and_then : option.Option Version → option.Option Version → option.Option Version
-  and_then option.none o = o
-  and_then (option.some u) o = option.some (pick u o)
+  abbrev and_then : Option Version → Option Version → Option Version
+  and_then None o = o
+  and_then (Some u) o = Some (pick u o)
 
-  module _ (better : Option Candidate → Candidate → Option Candidate) (p : Version → Bool) (table : List Row) (one : (n : Candidate) → better None n ≡ Some n) (alone : (v : Version) → pick v option.none ≡ v) (two : (old new : Candidate) (u w : Version) → Finds p table (Some old) (option.some u) → Finds p table (Some new) (option.some w) → Finds p table (better (Some old) new) (option.some (pick u (option.some w)))) (assoc : (u w : Version) (o : option.Option Version) → pick (pick u (option.some w)) o ≡ pick u (option.some (pick w o))) where
-    took : (n : Candidate) (w : Version) (best : Option Candidate) (u o : option.Option Version) → Finds p table best u → Finds p table (Some n) (option.some w) →
-        (x : option.Option Version) × Finds p table (better best n) x × (and_then x o ≡ and_then u (option.some (pick w o)))
-    took n w None option.none o f g = (option.some w, subst (λ b. Finds p table b (option.some w)) (sym (one n)) g, refl)
-    took n w None (option.some v) o f g = absurd f
-    took n w (Some b) option.none o f g = absurd f
-    took n w (Some b) (option.some u) o f g = (option.some (pick u (option.some w)), two b n u w f g, ap option.some (assoc u w o))
+  module _ (better : Option Candidate → Candidate → Option Candidate) (p : Version → Bool) (table : List Row) (one : (n : Candidate) → better None n ≡ Some n) (alone : (v : Version) → pick v None ≡ v) (two : (old new : Candidate) (u w : Version) → Finds p table (Some old) (Some u) → Finds p table (Some new) (Some w) → Finds p table (better (Some old) new) (Some (pick u (Some w)))) (assoc : (u w : Version) (o : Option Version) → pick (pick u (Some w)) o ≡ pick u (Some (pick w o))) where
+    took : (n : Candidate) (w : Version) (best : Option Candidate) (u o : Option Version) → Finds p table best u → Finds p table (Some n) (Some w) →
+        (x : Option Version) × Finds p table (better best n) x × (and_then x o ≡ and_then u (Some (pick w o)))
+    took n w None None o f g = (Some w, subst (λ b. Finds p table b (Some w)) (sym (one n)) g, refl)
+    took n w None (Some v) o f g = absurd f
+    took n w (Some b) None o f g = absurd f
+    took n w (Some b) (Some u) o f g = (Some (pick u (Some w)), two b n u w f g, ap Some (assoc u w o))
 
-    finds_from : (rows : List Row) (i : ℕ) → drop i table ≡ rows → (best : Option Candidate) (u : option.Option Version) → Finds p table best u →
+    finds_from : (rows : List Row) (i : ℕ) → drop i table ≡ rows → (best : Option Candidate) (u : Option Version) → Finds p table best u →
         Finds p table (best_from better p i rows best) (and_then u (best_of pick p (in_rows rows)))
-    finds_from [] i e None option.none f = tt
-    finds_from [] i e None (option.some v) f = absurd f
-    finds_from [] i e (Some b) option.none f = absurd f
-    finds_from [] i e (Some b) (option.some u) f = subst (λ (v : Version). Finds p table (Some b) (option.some v)) (sym (alone u)) f
+    finds_from [] i e None None f = tt
+    finds_from [] i e None (Some v) f = absurd f
+    finds_from [] i e (Some b) None f = absurd f
+    finds_from [] i e (Some b) (Some u) f = subst (λ (v : Version). Finds p table (Some b) (Some v)) (sym (alone u)) f
     finds_from (None ∷ rows) i e best u f = finds_from rows (i + 1) (ap (λ k. drop k table) (add-one i) ∙ (at_drop table i None rows e).2) best u f
     finds_from (Some w ∷ rows) i e best u f = go (p w) refl (λ b x h. finds_from rows (i + 1) (ap (λ k. drop k table) (add-one i) ∙ (at_drop table i (Some w) rows e).2) b x h)
       where
         at : (i < length table) × (get_or table i None ≡ Some w) × (drop (suc i) table ≡ rows)
         at = at_drop table i (Some w) rows e
 
-        go : (k : Bool) → p w ≡ k → ((b : Option Candidate) (x : option.Option Version) → Finds p table b x → Finds p table (best_from better p (i + 1) rows b) (and_then x (best_of pick p (in_rows rows)))) →
-            Finds p table (best_from better p (i + 1) rows (cond k (better best (candidate i w)) best)) (and_then u (cond k (option.some (pick w (best_of pick p (in_rows rows)))) (best_of pick p (in_rows rows))))
+        go : (k : Bool) → p w ≡ k → ((b : Option Candidate) (x : Option Version) → Finds p table b x → Finds p table (best_from better p (i + 1) rows b) (and_then x (best_of pick p (in_rows rows)))) →
+            Finds p table (best_from better p (i + 1) rows (cond k (better best (candidate i w)) best)) (and_then u (cond k (Some (pick w (best_of pick p (in_rows rows)))) (best_of pick p (in_rows rows))))
         go true q ih =
             let t = took (candidate i w) w best u (best_of pick p (in_rows rows)) f (at.0, at.1, refl, q) in
             subst (Finds p table (best_from better p (i + 1) rows (better best (candidate i w)))) t.2 (ih (better best (candidate i w)) t.0 t.1)
         go false q ih = ih best u f
 
     finds : Finds p table (best_from better p 0 table None) (best_of pick p (in_rows table))
-    finds = finds_from table 0 refl None option.none tt
+    finds = finds_from table 0 refl None None tt
 
-lower_assoc : (u w : Version) (o : option.Option Version) → lower (lower u (option.some w)) o ≡ lower u (option.some (lower w o))
-lower_assoc u w option.none = refl
-lower_assoc u w (option.some x) = go (ltb u.stamp.begin w.stamp.begin) refl (ltb w.stamp.begin x.stamp.begin) refl
+lower_assoc : (u w : Version) (o : Option Version) → lower (lower u (Some w)) o ≡ lower u (Some (lower w o))
+lower_assoc u w None = refl
+lower_assoc u w (Some x) = go (ltb u.stamp.begin w.stamp.begin) refl (ltb w.stamp.begin x.stamp.begin) refl
   where
     go : (a : Bool) → ltb u.stamp.begin w.stamp.begin ≡ a → (b : Bool) → ltb w.stamp.begin x.stamp.begin ≡ b →
-        lower (cond a u w) (option.some x) ≡ lower u (option.some (cond b w x))
+        lower (cond a u w) (Some x) ≡ lower u (Some (cond b w x))
     go true e true f =
         let h = ltb-true u.stamp.begin w.stamp.begin e in
         let k = ltb-true w.stamp.begin x.stamp.begin f in
@@ -110,19 +109,19 @@ lower_assoc u w (option.some x) = go (ltb u.stamp.begin w.stamp.begin) refl (ltb
 pub finds_lowest : (p : Version → Bool) (table : List Row) → Finds p table (best_from lower_of p 0 table None) (lowest p (in_rows table))
 finds_lowest p table = finds lower lower_of p table (λ n. refl) (λ v. refl) two lower_assoc
   where
-    two : (old new : Candidate) (u w : Version) → Finds p table (Some old) (option.some u) → Finds p table (Some new) (option.some w) → Finds p table (lower_of (Some old) new) (option.some (lower u (option.some w)))
+    two : (old new : Candidate) (u w : Version) → Finds p table (Some old) (Some u) → Finds p table (Some new) (Some w) → Finds p table (lower_of (Some old) new) (Some (lower u (Some w)))
     two old new u w f g = go (ltb old.begin new.begin) (ltb u.stamp.begin w.stamp.begin) (ap₂ ltb f.2 g.2)
       where
-        go : (k k' : Bool) → k ≡ k' → Finds p table (cond k (Some old) (Some new)) (option.some (cond k' u w))
+        go : (k k' : Bool) → k ≡ k' → Finds p table (cond k (Some old) (Some new)) (Some (cond k' u w))
         go true k' e = rw (← e) f
         go false k' e = rw (← e) g
 
-higher_assoc : (u w : Version) (o : option.Option Version) → higher (higher u (option.some w)) o ≡ higher u (option.some (higher w o))
-higher_assoc u w option.none = refl
-higher_assoc u w (option.some x) = go (ltb u.stamp.begin w.stamp.begin) refl (ltb w.stamp.begin x.stamp.begin) refl
+higher_assoc : (u w : Version) (o : Option Version) → higher (higher u (Some w)) o ≡ higher u (Some (higher w o))
+higher_assoc u w None = refl
+higher_assoc u w (Some x) = go (ltb u.stamp.begin w.stamp.begin) refl (ltb w.stamp.begin x.stamp.begin) refl
   where
     go : (a : Bool) → ltb u.stamp.begin w.stamp.begin ≡ a → (b : Bool) → ltb w.stamp.begin x.stamp.begin ≡ b →
-        higher (cond a w u) (option.some x) ≡ higher u (option.some (cond b x w))
+        higher (cond a w u) (Some x) ≡ higher u (Some (cond b x w))
     go true e true f =
         let h = ltb-true u.stamp.begin w.stamp.begin e in
         let k = ltb-true w.stamp.begin x.stamp.begin f in
@@ -137,10 +136,10 @@ higher_assoc u w (option.some x) = go (ltb u.stamp.begin w.stamp.begin) refl (lt
 pub finds_highest : (p : Version → Bool) (table : List Row) → Finds p table (best_from higher_of p 0 table None) (highest p (in_rows table))
 finds_highest p table = finds higher higher_of p table (λ n. refl) (λ v. refl) two higher_assoc
   where
-    two : (old new : Candidate) (u w : Version) → Finds p table (Some old) (option.some u) → Finds p table (Some new) (option.some w) → Finds p table (higher_of (Some old) new) (option.some (higher u (option.some w)))
+    two : (old new : Candidate) (u w : Version) → Finds p table (Some old) (Some u) → Finds p table (Some new) (Some w) → Finds p table (higher_of (Some old) new) (Some (higher u (Some w)))
     two old new u w f g = go (ltb old.begin new.begin) (ltb u.stamp.begin w.stamp.begin) (ap₂ ltb f.2 g.2)
       where
-        go : (k k' : Bool) → k ≡ k' → Finds p table (cond k (Some new) (Some old)) (option.some (cond k' w u))
+        go : (k k' : Bool) → k ≡ k' → Finds p table (cond k (Some new) (Some old)) (Some (cond k' w u))
         go true k' e = rw (← e) g
         go false k' e = rw (← e) f
 

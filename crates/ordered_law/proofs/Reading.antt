@@ -1,6 +1,5 @@
 -- A read shows the newest finished write of its place.
-use Rattle.std.proofs.Common.{◌≡◌, ℕ, ◌<◌, Bool, true, false, cond, not, ◌&&◌, eqb, ltb, ◌≢◌, List, [], ◌∷◌, map, length, get_or, set, sym, refl, ap, ◌∙◌, subst, arith, get_or-set_other, get_or-set_same}
-use mathlib.Core.Option.{Option, none, some}
+use Rattle.std.proofs.Common.{◌≡◌, ℕ, ◌<◌, Bool, true, false, cond, not, ◌&&◌, eqb, ltb, ◌≢◌, List, [], ◌∷◌, map, length, get_or, set, sym, refl, ap, ◌∙◌, subst, arith, get_or-set_other, get_or-set_same, Option, None, Some}
 use Rattle.std.specs.List.{AllByRecursion}
 use Rattle.std.proofs.lemmas.List.{length-set}
 use Rattle.std.proofs.lemmas.Bool.{cond_both, both_ways, and_parts, eqb-true, ltb-true, not-false}
@@ -8,6 +7,7 @@ use Rattle.std.proofs.lemmas.Bool.Decides.{nat_tests}
 use Rattle.std.proofs.ByRecursion.{All-weaker, kept_by_passes}
 use Rattle.disk.specs.Medium.{Block, lay, Medium, current}
 use Rattle.precedence.specs.Stamps.{Precedence, Lawful}
+use Rattle.std.specs.Option.{option_or}
 use Rattle.table.specs.declared.held.State.{State}
 use Rattle.table.specs.declared.held.State.TheVariants.{Home}
 use Rattle.table.specs.declared.held.Version.{Version}
@@ -15,7 +15,7 @@ use Rattle.table.specs.Versions.{live, finished, held, finished_in}
 use Rattle.ordered_law.specs.Device.{Device}
 use Rattle.ordered_law.specs.Events.{Read, Answer, took, shown, counted, refused}
 use Rattle.ordered_law.specs.Promise.{write_of, writes, kept_writes, Pairs, newest_block}
-use Rattle.ordered_law.proofs.Sorted.{next_bad, Sorted, SortedOutcome, last, or_else, newest, sorted_through, sorted_read, sorted_opened, sorted_outcome, Asked, after}
+use Rattle.ordered_law.proofs.Sorted.{next_bad, Sorted, SortedOutcome, last, newest, sorted_through, sorted_read, sorted_opened, sorted_outcome, Asked, after}
 use Rattle.ordered_law.proofs.Lists.{In, here, there, all_in, all_of, all_both, in_kept, pairs_kept, lay_length}
 use Rattle.ordered_law.proofs.Invariant.{Before, Released, Firm, Keeps, plus}
 use Rattle.ordered_law.proofs.Firming.{no_later, firm_more}
@@ -69,21 +69,21 @@ record Last (p : Version → Bool) (v : Version) (l : List Version) : Type 0 whe
   none_later : AllByRecursion (λ w. v.stamp.begin < w.stamp.begin → p w ≡ false) l
 
 abbrev Found : (Version → Bool) → List Version → Option Version → Type 0
-Found p l (some v) = Last p v l
-Found p l none = AllByRecursion (λ v. p v ≡ false) l
+Found p l (Some v) = Last p v l
+Found p l None = AllByRecursion (λ v. p v ≡ false) l
 
 found_last : (p : Version → Bool) (l : List Version) → Pairs Before l → Found p l (last p l)
 found_last p [] o = tt
 found_last p (x ∷ l) o = go (last p l) (found_last p l o.1) (p x) refl
   where
-    go : (r : Option Version) → Found p l r → (k : Bool) → p x ≡ k → Found p (x ∷ l) (or_else r (cond k (some x) none))
-    go (some v) f k e = record {
+    go : (r : Option Version) → Found p l r → (k : Bool) → p x ≡ k → Found p (x ∷ l) (option_or r (cond k (Some x) None))
+    go (Some v) f k e = record {
       inside = there f.inside;
       passes = f.passes;
       none_later = ((λ lt. absurd (let h = (all_in (Before x) v l f.inside o.0).earlier in omega arith)), f.none_later);
     }
-    go none f true e = record { inside = here; passes = e; none_later = ((λ lt. absurd (omega arith)), All-weaker _ _ (λ w h _. h) l f) }
-    go none f false e = (e, f)
+    go None f true e = record { inside = here; passes = e; none_later = ((λ lt. absurd (omega arith)), All-weaker _ _ (λ w h _. h) l f) }
+    go None f false e = (e, f)
 
 -- ---- the read
 
@@ -200,8 +200,8 @@ read_newest precedes lawful opening l c i device place size =
     (newest place c.table) (subst (λ (t : List Version). Found (finished_in place) (held l) (newest place t)) (sym i.table_is) (found_last (finished_in place) (held l) (pairs_kept Before (λ v. live v.state) l i.book.order)))))
   where
     go : place < length c.medium.firm → (o : Option Version) → Found (finished_in place) (held l) o → ShownNewest opening l place (sorted_through device place c o)
-    go lt (some v) f = λ b e. let q : v.bytes ≡ b = cc in sym q ∙ from_table precedes lawful opening l c i place lt v f
-    go lt none f = cond_both (next_bad c.medium.plan) _ _ (ShownNewest opening l place) (λ _ b e. not_shown _ b refl e)
+    go lt (Some v) f = λ b e. let q : v.bytes ≡ b = cc in sym q ∙ from_table precedes lawful opening l c i place lt v f
+    go lt None f = cond_both (next_bad c.medium.plan) _ _ (ShownNewest opening l place) (λ _ b e. not_shown _ b refl e)
         (λ _ b e. let q : get_or (current c.medium) place [] ≡ b = cc in sym q ∙ from_disk precedes lawful opening l c i place lt f)
 
 -- an accepted read, after these calls

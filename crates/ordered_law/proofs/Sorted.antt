@@ -1,6 +1,5 @@
 -- The same cache with its table as a list in the order of begin marks: the form in which the laws are proved.
-use Rattle.std.proofs.Common.{ℕ, ◌+◌, Bool, true, false, cond, not, eqb, ltb, List, [], ◌∷◌, ◌++◌, map, length, get_or}
-use mathlib.Core.Option.{Option, none, some}
+use Rattle.std.proofs.Common.{ℕ, ◌+◌, Bool, true, false, cond, not, eqb, ltb, List, [], ◌∷◌, ◌++◌, map, length, get_or, Option, None, Some}
 use Rattle.std.specs.declared.option.Option as answer
 use Rattle.disk.specs.declared.error.Kind.{Kind}
 use Rattle.disk.specs.declared.error.Kind.TheVariants as kind
@@ -12,6 +11,7 @@ use Rattle.errors.specs.declared.CacheError.{CacheError}
 use Rattle.errors.specs.declared.CacheError.TheVariants as error
 use Rattle.errors.specs.Errors.{during_call}
 use Rattle.precedence.specs.Stamps.{Precedence}
+use Rattle.std.specs.Option.{option_or}
 use Rattle.table.specs.declared.held.Version.{Version}
 use Rattle.table.specs.declared.tally.Counts.{Counts}
 use Rattle.table.specs.Versions.{held, is_sent, some_pass, count, has_ticket, begun, finish_one, withdraw_one, send_one, bring_home, wait_again, finished_in}
@@ -87,21 +87,17 @@ sorted_withdraw t c =
     (sorted_refuse error.NoTicket c)
 
 -- the last that passes
-abbrev pub or_else : {A : Type 0} → Option A → Option A → Option A
-or_else (some x) y = some x
-or_else none y = y
-
 abbrev pub last : {A : Type 0} → (A → Bool) → List A → Option A
-last p [] = none
-last p (x ∷ xs) = or_else (last p xs) (cond (p x) (some x) none)
+last p [] = None
+last p (x ∷ xs) = option_or (last p xs) (cond (p x) (Some x) None)
 
 -- the place's finished write of highest begin mark in the table
 abbrev pub newest : ℕ → List Version → Option Version
 newest place table = last (finished_in place) table
 
 abbrev pub sorted_through : Device → ℕ → Sorted → Option Version → SortedOutcome
-sorted_through device place c (some v) = record { answer = shown v.bytes; cache = c }
-sorted_through device place c none =
+sorted_through device place c (Some v) = record { answer = shown v.bytes; cache = c }
+sorted_through device place c None =
     cond (next_bad c.medium.plan) (fault (failed_call during.Read kind.Read place device.tries) c)
     (record {
       answer = shown (get_or (current c.medium) place []);
@@ -133,8 +129,8 @@ sorted_flush device c =
     })
 
 abbrev pub sorted_with : Device → Sorted → Option Version → SortedOutcome
-sorted_with device c (some v) = sorted_send device v c
-sorted_with device c none = cond (any_sent c.table) (sorted_flush device c) (record { answer = took 3; cache = c })
+sorted_with device c (Some v) = sorted_send device v c
+sorted_with device c None = cond (any_sent c.table) (sorted_flush device c) (record { answer = took 3; cache = c })
 
 abbrev pub sorted_step : Precedence → Device → Sorted → SortedOutcome
 sorted_step precedes device c =

@@ -1,13 +1,13 @@
 -- Versions put in the order of begin marks, and what scans in any order find of them.
-use Rattle.std.proofs.Common.{◌≡◌, ◌+◌, ◌<◌, ◌≤◌, Bool, true, false, cond, ◌||◌, ltb, List, [], ◌∷◌, ◌++◌, map, length, filter, sym, refl, ap, ◌∙◌, ap₂, arith, None, Some}
-use mathlib.Core.Option.{Option, none, some}
+use Rattle.std.proofs.Common.{◌≡◌, ◌+◌, ◌<◌, ◌≤◌, Bool, true, false, cond, ◌||◌, ltb, List, [], ◌∷◌, ◌++◌, map, length, filter, sym, refl, ap, ◌∙◌, ap₂, arith, None, Some, Option}
 use Rattle.std.specs.List.{AllByRecursion}
 use Rattle.std.proofs.lemmas.Bool.{ltb-true, ltb-false, lt-ltb, le-ltb, cond_both, both_ways}
 use Rattle.std.proofs.ByRecursion.{All-weaker, all_kept_by}
 use Rattle.table.specs.declared.held.Version.{Version}
 use Rattle.table.specs.Versions.{some_pass}
-use Rattle.ordered_law.specs.Ledger.{first}
-use Rattle.ordered_law.proofs.Sorted.{last, or_else}
+use Rattle.std.specs.List.{find}
+use Rattle.std.specs.Option.{option_or}
+use Rattle.ordered_law.proofs.Sorted.{last}
 use Rattle.ordered_law.specs.Promise.{Pairs}
 use Rattle.table.specs.Rows.{Row, in_rows, put}
 use Rattle.ordered_law.proofs.Picking.{lower, higher, lowest, highest}
@@ -119,69 +119,69 @@ in_order_kept p (v ∷ l) = go (p v) (in_order_kept p l) ∙ sym (insert_kept p 
 
 -- ---- the lowest and the highest that pass
 
-lower_front : (p : Version → Bool) (v : Version) (l : List Version) → AllByRecursion (λ w. v.stamp.begin < w.stamp.begin) l → lower v (first p l) ≡ v
+lower_front : (p : Version → Bool) (v : Version) (l : List Version) → AllByRecursion (λ w. v.stamp.begin < w.stamp.begin) l → lower v (find p l) ≡ v
 lower_front p v [] a = refl
 lower_front p v (u ∷ l) a = cond_both (p u) _ _ (λ o. lower v o ≡ v) (λ _. let e = lt-ltb v.stamp.begin u.stamp.begin a.0 in rw e) (λ _. lower_front p v l a.1)
 
-insert_first : (p : Version → Bool) (v : Version) (l : List Version) → Rising l → first p (insert v l) ≡ cond (p v) (some (lower v (first p l))) (first p l)
+insert_first : (p : Version → Bool) (v : Version) (l : List Version) → Rising l → find p (insert v l) ≡ cond (p v) (Some (lower v (find p l))) (find p l)
 insert_first p v [] r = refl
 insert_first p v (u ∷ l) r = go (ltb v.stamp.begin u.stamp.begin) refl (insert_first p v l r.1)
   where
-    go : (k : Bool) → ltb v.stamp.begin u.stamp.begin ≡ k → first p (insert v l) ≡ cond (p v) (some (lower v (first p l))) (first p l) →
-        first p (cond k (v ∷ u ∷ l) (u ∷ insert v l)) ≡ cond (p v) (some (lower v (first p (u ∷ l)))) (first p (u ∷ l))
-    go true e ih = ap (λ (x : Version). cond (p v) (some x) (first p (u ∷ l))) (sym (lower_front p v (u ∷ l) (above v u l (ltb-true v.stamp.begin u.stamp.begin e) r.0)))
+    go : (k : Bool) → ltb v.stamp.begin u.stamp.begin ≡ k → find p (insert v l) ≡ cond (p v) (Some (lower v (find p l))) (find p l) →
+        find p (cond k (v ∷ u ∷ l) (u ∷ insert v l)) ≡ cond (p v) (Some (lower v (find p (u ∷ l)))) (find p (u ∷ l))
+    go true e ih = ap (λ (x : Version). cond (p v) (Some x) (find p (u ∷ l))) (sym (lower_front p v (u ∷ l) (above v u l (ltb-true v.stamp.begin u.stamp.begin e) r.0)))
     go false e ih = pass (p u) (p v) ih
       where
-        pass : (a b : Bool) → first p (insert v l) ≡ cond b (some (lower v (first p l))) (first p l) →
-            cond a (some u) (first p (insert v l)) ≡ cond b (some (lower v (cond a (some u) (first p l)))) (cond a (some u) (first p l))
+        pass : (a b : Bool) → find p (insert v l) ≡ cond b (Some (lower v (find p l))) (find p l) →
+            cond a (Some u) (find p (insert v l)) ≡ cond b (Some (lower v (cond a (Some u) (find p l)))) (cond a (Some u) (find p l))
         pass true true ih = rw e
         pass true false ih = refl
         pass false b ih = ih
 
-pub in_order_first : (p : Version → Bool) (l : List Version) → first p (in_order l) ≡ lowest p l
+pub in_order_first : (p : Version → Bool) (l : List Version) → find p (in_order l) ≡ lowest p l
 in_order_first p [] = refl
-in_order_first p (v ∷ l) = insert_first p v (in_order l) (rising l) ∙ ap (λ o. cond (p v) (some (lower v o)) o) (in_order_first p l)
+in_order_first p (v ∷ l) = insert_first p v (in_order l) (rising l) ∙ ap (λ o. cond (p v) (Some (lower v o)) o) (in_order_first p l)
 
-last_front : (p : Version → Bool) (v : Version) (l : List Version) → AllByRecursion (λ w. v.stamp.begin < w.stamp.begin) l → or_else (last p l) (some v) ≡ some (higher v (last p l))
+last_front : (p : Version → Bool) (v : Version) (l : List Version) → AllByRecursion (λ w. v.stamp.begin < w.stamp.begin) l → option_or (last p l) (Some v) ≡ Some (higher v (last p l))
 last_front p v [] a = refl
 last_front p v (u ∷ l) a = go (last p l) (last_front p v l a.1) (p u)
   where
-    go : (o : Option Version) → or_else o (some v) ≡ some (higher v o) → (k : Bool) →
-        or_else (or_else o (cond k (some u) none)) (some v) ≡ some (higher v (or_else o (cond k (some u) none)))
-    go (some w) ih k = ih
-    go none ih true = let e = lt-ltb v.stamp.begin u.stamp.begin a.0 in rw e
-    go none ih false = refl
+    go : (o : Option Version) → option_or o (Some v) ≡ Some (higher v o) → (k : Bool) →
+        option_or (option_or o (cond k (Some u) None)) (Some v) ≡ Some (higher v (option_or o (cond k (Some u) None)))
+    go (Some w) ih k = ih
+    go None ih true = let e = lt-ltb v.stamp.begin u.stamp.begin a.0 in rw e
+    go None ih false = refl
 
-insert_highest : (p : Version → Bool) (v : Version) (l : List Version) → Rising l → last p (insert v l) ≡ cond (p v) (some (higher v (last p l))) (last p l)
+insert_highest : (p : Version → Bool) (v : Version) (l : List Version) → Rising l → last p (insert v l) ≡ cond (p v) (Some (higher v (last p l))) (last p l)
 insert_highest p v [] r = refl
 insert_highest p v (u ∷ l) r = go (ltb v.stamp.begin u.stamp.begin) refl (insert_highest p v l r.1)
   where
     L : Option Version
     L = last p (u ∷ l)
 
-    go : (k : Bool) → ltb v.stamp.begin u.stamp.begin ≡ k → last p (insert v l) ≡ cond (p v) (some (higher v (last p l))) (last p l) →
-        last p (cond k (v ∷ u ∷ l) (u ∷ insert v l)) ≡ cond (p v) (some (higher v L)) L
+    go : (k : Bool) → ltb v.stamp.begin u.stamp.begin ≡ k → last p (insert v l) ≡ cond (p v) (Some (higher v (last p l))) (last p l) →
+        last p (cond k (v ∷ u ∷ l) (u ∷ insert v l)) ≡ cond (p v) (Some (higher v L)) L
     go true e ih = pass (p v)
       where
-        keep : (o : Option Version) → or_else o none ≡ o
-        keep (some w) = refl
-        keep none = refl
+        keep : (o : Option Version) → option_or o None ≡ o
+        keep (Some w) = refl
+        keep None = refl
 
-        pass : (b : Bool) → or_else L (cond b (some v) none) ≡ cond b (some (higher v L)) L
+        pass : (b : Bool) → option_or L (cond b (Some v) None) ≡ cond b (Some (higher v L)) L
         pass true = last_front p v (u ∷ l) (above v u l (ltb-true v.stamp.begin u.stamp.begin e) r.0)
         pass false = keep L
     go false e ih = pass (p u) (p v) (last p l) ih
       where
-        pass : (a b : Bool) (o : Option Version) → last p (insert v l) ≡ cond b (some (higher v o)) o →
-            or_else (last p (insert v l)) (cond a (some u) none) ≡ cond b (some (higher v (or_else o (cond a (some u) none)))) (or_else o (cond a (some u) none))
-        pass a true (some w) ih = rw ih
-        pass true true none ih = rw (ih, e)
-        pass false true none ih = rw ih
+        pass : (a b : Bool) (o : Option Version) → last p (insert v l) ≡ cond b (Some (higher v o)) o →
+            option_or (last p (insert v l)) (cond a (Some u) None) ≡ cond b (Some (higher v (option_or o (cond a (Some u) None)))) (option_or o (cond a (Some u) None))
+        pass a true (Some w) ih = rw ih
+        pass true true None ih = rw (ih, e)
+        pass false true None ih = rw ih
         pass a false o ih = rw ih
 
 pub in_order_last : (p : Version → Bool) (l : List Version) → last p (in_order l) ≡ highest p l
 in_order_last p [] = refl
-in_order_last p (v ∷ l) = insert_highest p v (in_order l) (rising l) ∙ ap (λ o. cond (p v) (some (higher v o)) o) (in_order_last p l)
+in_order_last p (v ∷ l) = insert_highest p v (in_order l) (rising l) ∙ ap (λ o. cond (p v) (Some (higher v o)) o) (in_order_last p l)
 
 -- ---- one more, of highest begin mark
 

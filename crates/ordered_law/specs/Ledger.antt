@@ -1,23 +1,18 @@
 -- What became of each write, by the listed calls, their answers and the precedence alone.
-use Rattle.std.specs.Prelude.{ℕ, Bool, cond, List, [], ◌∷◌, ◌++◌, map, ◌==◌}
-use Rattle.std.proofs.Math.Option.{Option, none, some}
+use Rattle.std.specs.Prelude.{ℕ, cond, List, [], ◌∷◌, ◌++◌, map, ◌==◌, Option, None, Some}
+use Rattle.std.specs.List.{find}
 use Rattle.precedence.specs.Stamps.{Precedence}
 use Rattle.table.specs.declared.held.Version.{Version}
 use Rattle.table.specs.Versions.{held, ready, begun, finish_one, withdraw_one, send_one, bring_home, wait_again}
 use Rattle.ordered_law.specs.Events.{Call, Begin, Finish, Withdraw, Read, Step, Restart, Count, Answer, took, shown, counted, refused, Event}
 
--- the first that passes
-abbrev pub first : {A : Type 0} → (A → Bool) → List A → Option A
-first p [] = none
-first p (x ∷ xs) = cond (p x) (some x) (first p xs)
-
 -- of writes in the order of begin marks, the ready one of lowest begin mark
 abbrev pub chosen : Precedence → List Version → Option Version
-chosen precedes table = first (ready precedes table) table
+chosen precedes table = find (ready precedes table) table
 
 abbrev pub send_chosen : List Version → Option Version → List Version
-send_chosen ledger (some v) = map (send_one v.stamp.begin) ledger
-send_chosen ledger none = ledger
+send_chosen ledger (Some v) = map (send_one v.stamp.begin) ledger
+send_chosen ledger None = ledger
 
 -- A step answered 1 sends the ready write of lowest begin mark; one answered 2 brings all sent writes home.
 abbrev pub note_step : Precedence → List Version → ℕ → List Version

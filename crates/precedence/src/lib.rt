@@ -6,7 +6,7 @@ ghost use Rattle.precedence.specs.Stamps.{begun_at, finished_at, Lawful, overlap
 ghost use Rattle.precedence.specs.declared.Stamp.{Stamp};
 ghost use Rattle.precedence.specs.Orders.{by_overlap, by_line};
 
-// A write's record: its place and its marks. The finish mark is 0 while the write is open.
+// A write's record: its place and its marks. The finish mark is 0 while the write is open: the rules of a record have it so, and their theorems, so it is no Option.
 #[derive(Clone, Copy, PartialEq, Eq, Debug)]
 pub struct Stamp {
     pub place: usize,

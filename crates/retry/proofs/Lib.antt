@@ -1,1 +1,2 @@
 pub mod Retries
+pub mod Trying

@@ -1,10 +1,10 @@
 // A layer over any bench disk that makes a failed call again.
 #![tactic(auto)]
 
-ghost use Rattle.std.specs.Prelude.{◌≡◌};
+ghost use Rattle.std.specs.Prelude.{◌≡◌, Err};
 ghost use Rattle.disk.specs.Medium.{Alike};
-ghost use Rattle.disk.specs.Calls.{is_fault};
-ghost use Rattle.retry.specs.Retried.{retry_medium, tripled};
+ghost use Rattle.disk.specs.Calls.{answer, failed, is_fault};
+ghost use Rattle.retry.specs.Retried.{retry_medium, tripled, Tries};
 ghost use Rattle.retry.specs.Soundness.{retry_sound};
 
 use disk::disk::{BenchDisk, Disk, JoiningDisk};
@@ -36,6 +36,17 @@ impl<D: BenchDisk> Retry<D> {
         let Retry { disk } = self;
         disk
     }
+
+    // The fault of a call that failed three times.
+    fn fault(kind: Kind, place: usize) -> DiskError
+        ensures { Err result ≡ answer (tripled D.Disk.attempts) kind place failed }
+    {
+        DiskError::Fault(Fault {
+            kind,
+            place,
+            tries: Self::tries(),
+        })
+    }
 }
 
 // Whether the call failed and may be made again.
@@ -43,6 +54,23 @@ fn faulty(answer: &Result<(), DiskError>) -> bool
     ensures { result ≡ is_fault answer.now }
 {
     matches!(answer, Err(DiskError::Fault(_)))
+}
+
+// Makes the call up to three times, and answers the first that is no fault; after three, the fault that is given.
+fn tried<F: FnMut() -> Result<(), DiskError>>(
+    fault: DiskError,
+    call: &mut F,
+) -> Result<(), DiskError>
+    requires { F.IsAlwaysCallable call.old }
+    ensures { Tries F.step 3 (Err fault) call.old result call.new }
+{
+    for attempt in 0..TRIES {
+        let answer = call();
+        if !faulty(&answer) {
+            return answer;
+        }
+    }
+    Err(fault)
 }
 
 impl<D: BenchDisk> Disk for Retry<D> {
@@ -63,45 +91,18 @@ impl<D: BenchDisk> Disk for Retry<D> {
     }
 
     fn read(&mut self, place: usize, buffer: &mut [u8]) -> Result<(), DiskError> {
-        for attempt in 0..TRIES {
-            let answer = self.disk.read(place, buffer);
-            if !faulty(&answer) {
-                return answer;
-            }
-        }
-        Err(DiskError::Fault(Fault {
-            kind: Kind::Read,
-            place,
-            tries: Self::tries(),
-        }))
+        let fault = Self::fault(Kind::Read, place);
+        tried(fault, &mut || self.disk.read(place, buffer))
     }
 
     fn write(&mut self, place: usize, bytes: &[u8]) -> Result<(), DiskError> {
-        for attempt in 0..TRIES {
-            let answer = self.disk.write(place, bytes);
-            if !faulty(&answer) {
-                return answer;
-            }
-        }
-        Err(DiskError::Fault(Fault {
-            kind: Kind::Write,
-            place,
-            tries: Self::tries(),
-        }))
+        let fault = Self::fault(Kind::Write, place);
+        tried(fault, &mut || self.disk.write(place, bytes))
     }
 
     fn flush(&mut self) -> Result<(), DiskError> {
-        for attempt in 0..TRIES {
-            let answer = self.disk.flush();
-            if !faulty(&answer) {
-                return answer;
-            }
-        }
-        Err(DiskError::Fault(Fault {
-            kind: Kind::Flush,
-            place: 0,
-            tries: Self::tries(),
-        }))
+        let fault = Self::fault(Kind::Flush, 0);
+        tried(fault, &mut || self.disk.flush())
     }
 }
 

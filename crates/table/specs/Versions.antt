@@ -68,7 +68,7 @@ live Withdrawn = false
 
 -- ---- lists of versions
 
--- does some element pass the test?
+-- does some element pass the test? The library's word by this crate's name.
 abbrev pub some_pass : {A : Type 0} → (A → Bool) → List A → Bool
 some_pass p xs = list_any p xs
 

@@ -1,6 +1,5 @@
 -- A trace that is encoded is decoded again, and what is decoded is, but for what is ignored, the encoding.
 use Rattle.std.proofs.Common.{◌≡◌, ℕ, zero, suc, ◌+◌, ◌*◌, ◌/◌, ◌%◌, ◌<◌, ◌≤◌, Bool, true, false, cond, ◌&&◌, eqb, leb, List, [], ◌∷◌, ◌++◌, length, get_or, take, drop, Some, None, Option, sym, refl, ap, ◌∙◌, subst, arith}
-use Rattle.std.specs.Int.{from_bool, to_le_bytes, w16}
 use Rattle.std.specs.List.{flat_map}
 use Rattle.std.proofs.lemmas.Bool.{le-leb, leb-true, eqb-true, and_from, and_parts, cond-true}
 use Rattle.std.proofs.lemmas.List.{append_assoc, append-nil, length-append, length-take-le, take-append-drop, take_at, drop_at, get_or-append-add, nil_from_length}
@@ -308,43 +307,3 @@ calls_few bs s cs b e k =
     let l = laid bs s b e in
     let c = listed s.calls cs (calls_bytes bs s b l) k in
     omega (arith, l.calls_size, l.few_listed, c.size)
-
--- what was decoded, from its parts
-pub decode_found : (bs : List ℕ) (s : Sections) (plan : List ℕ) (cs : List TraceCall) → sections bs ≡ Some s → all_entries s.plan ≡ true →
-    calls_of s.calls ≡ Some cs → plan ≡ s.plan → decode bs ≡ Some (record { mode = s.mode; retry = s.retry; plan = plan; calls = cs })
-decode_found bs s plan cs e a k p =
-    ap (λ o. and_then o (λ s. cond (all_entries s.plan) (and_then (calls_of s.calls) (λ calls. Some (record { mode = s.mode; retry = s.retry; plan = s.plan; calls = calls }))) None)) e
-    ∙ ap (λ b. cond b (and_then (calls_of s.calls) (λ calls. Some (record { mode = s.mode; retry = s.retry; plan = s.plan; calls = calls }))) None) a
-    ∙ ap (λ o. and_then o (λ calls. Some (record { mode = s.mode; retry = s.retry; plan = s.plan; calls = calls }))) k
-    ∙ ap (λ xs. Some (record { mode = s.mode; retry = s.retry; plan = xs; calls = cs })) (sym p)
-
--- a number of two bytes as the library writes it
-pub two_bytes_of : (n k : ℕ) → n ≡ k → k < 65536 → to_le_bytes w16 n ≡ two_bytes k
-two_bytes_of n k e h =
-    ap (λ m. to_le_bytes w16 m) e ∙ ap (λ high. k % 256 ∷ (high ∷ [])) (let q : k / 256 % 256 ≡ k / 256 = omega arith in q)
-
--- a flag as the library writes it
-flag : (b : Bool) → from_bool b ≡ flag_byte b
-flag false = refl
-flag true = refl
-
--- an encoding that is put together from the front
-pub encoded_by : (t : Trace) (layers : ℕ) {m : ℕ} {a b c d e : List ℕ} → m ≡ mode_byte t.mode → layers ≡ from_bool t.retry → a ≡ 2 ∷ (m ∷ (layers ∷ [])) →
-    b ≡ a ++ two_bytes (length t.plan) → c ≡ b ++ t.plan → d ≡ c ++ two_bytes (length t.calls) → e ≡ d ++ flat_map call_bytes t.calls → e ≡ encode t
-encoded_by t layers p f q r s u v =
-    v
-    ∙ ap (λ xs. xs ++ calls) (u ∙ ap (λ xs. xs ++ n) (s ∙ ap (λ xs. xs ++ t.plan) (r ∙ ap (λ xs. xs ++ k) (q ∙ ap (λ x. 2 ∷ (x ∷ (layers ∷ []))) p ∙ ap (λ x. 2 ∷ (mode_byte t.mode ∷ (x ∷ []))) (f ∙ flag t.retry)))))
-    ∙ append_assoc ((start ++ k) ++ t.plan) n calls
-    ∙ append_assoc (start ++ k) t.plan (n ++ calls)
-  where
-    calls : List ℕ
-    calls = flat_map call_bytes t.calls
-
-    n : List ℕ
-    n = two_bytes (length t.calls)
-
-    k : List ℕ
-    k = two_bytes (length t.plan)
-
-    start : List ℕ
-    start = 2 ∷ (mode_byte t.mode ∷ (flag_byte t.retry ∷ []))

@@ -7,10 +7,6 @@ use Rattle.trace.specs.declared.building.GrowError.TheVariants.{Full, NoMemory}
 use Rattle.trace.specs.Calls.{flag_byte}
 use Rattle.trace.specs.Format.{Trace}
 
--- how a trace reports that an allocation failed
-abbrev pub no_memory : GrowError
-no_memory = NoMemory
-
 abbrev pub bare : Mode → Bool → Trace
 bare mode retry = record { mode = mode; retry = retry; plan = []; calls = [] }
 

@@ -1,6 +1,7 @@
 -- The format of a trace: options, a plan and a list of calls, each section after its count.
 use Rattle.std.specs.Prelude.{ℕ, ◌+◌, ◌*◌, Bool, cond, ◌&&◌, ◌||◌, List, [], ◌∷◌, ◌++◌, length, take, drop, Some, None, Option, ◌==◌, nat_le, slice_index}
 use Rattle.std.specs.List.{flat_map, list_all}
+use Rattle.std.specs.Option.{option_and_then}
 use Rattle.trace.specs.declared.call.Mode.{Mode}
 use Rattle.trace.specs.declared.call.TraceCall.{TraceCall}
 use Rattle.trace.specs.Calls.{mode_byte, mode_of, flag_byte, flag_of, two_bytes, call_bytes, call_of}
@@ -22,9 +23,9 @@ encode t =
 abbrev pub all_entries : List ℕ → Bool
 all_entries bs = list_all (λ b. nat_le b 1) bs
 
+-- the library's, the option first
 abbrev pub and_then : {A B : Type 0} → Option A → (A → Option B) → Option B
-and_then None f = None
-and_then (Some x) f = f x
+and_then o f = option_and_then f o
 
 -- a section: a two-byte count up to a limit, so many entries of one width, and what follows them
 abbrev pub section : ℕ → ℕ → List ℕ → Option (List ℕ × List ℕ)

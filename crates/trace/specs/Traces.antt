@@ -8,14 +8,6 @@ use Rattle.trace.specs.Format as format
 abbrev pub trace_of : Trace → format.Trace
 trace_of t = record { mode = t.mode; retry = t.retry; plan = vec_items t.plan; calls = vec_items t.calls }
 
--- how the decoder reports bytes that are none of the format's
-abbrev pub malformed : DecodeError
-malformed = Malformed
-
--- how the decoder reports that an allocation failed
-abbrev pub no_memory : DecodeError
-no_memory = NoMemory
-
 -- what the input holds was found, or it holds nothing; of want of memory nothing is said
 abbrev pub Finds : {A B : Type 0} → (A → B) → Option B → Result A DecodeError → Type 0
 Finds f held (Ok x) = held ≡ Some (f x)

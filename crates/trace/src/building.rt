@@ -1,6 +1,7 @@
 ghost use Rattle.std.specs.Prelude.{◌≡◌};
-ghost use Rattle.trace.specs.Building.{no_memory, bare, with_entry, with_call, Grows, entries_in, calls_in};
+ghost use Rattle.trace.specs.Building.{bare, with_entry, with_call, Grows, entries_in, calls_in};
 ghost use Rattle.trace.specs.Traces.{trace_of};
+ghost use Rattle.trace.specs.declared.building.GrowError.TheVariants.{NoMemory};
 
 use crate::call::{Mode, TraceCall};
 use crate::trace::{CALLS_MAX, PLAN_MAX, Trace};
@@ -14,8 +15,9 @@ pub enum GrowError {
     NoMemory,
 }
 
+// What was refused is dropped.
 impl<T: Drop> From<AllocFailed<T>> for GrowError {
-    ghost from_gives = { λ _ e. e ≡ no_memory };
+    ghost from_gives = { λ _ e. e ≡ NoMemory };
 
     fn from(_refused: AllocFailed<T>) -> GrowError {
         GrowError::NoMemory

@@ -1,6 +1,6 @@
 ghost use Rattle.std.specs.Prelude.{◌≡◌, ok_or};
 ghost use Rattle.trace.specs.Calls.{mode_byte, mode_of, flag_of, code_of, call_bytes, call_from, cut_choice};
-ghost use Rattle.trace.specs.Traces.{malformed};
+ghost use Rattle.trace.specs.declared.decoding.DecodeError.TheVariants.{Malformed};
 
 use crate::decoding::DecodeError;
 
@@ -18,6 +18,7 @@ pub enum Mode {
     Journaled,
 }
 
+// The byte that stands for the mode.
 impl From<Mode> for u8 {
     ghost from_gives = { λ mode byte. byte ≡ mode_byte mode };
 
@@ -30,10 +31,11 @@ impl From<Mode> for u8 {
     }
 }
 
+// The mode that the byte stands for, if it stands for one.
 impl TryFrom<u8> for Mode {
     type Error = DecodeError;
 
-    ghost try_from_gives = { λ byte mode. mode ≡ ok_or (mode_of byte) malformed };
+    ghost try_from_gives = { λ byte mode. mode ≡ ok_or (mode_of byte) Malformed };
 
     fn try_from(byte: u8) -> Result<Mode, DecodeError> {
         match byte {
@@ -46,6 +48,7 @@ impl TryFrom<u8> for Mode {
 }
 
 // Whether a retry layer stands on the disk, from the number of layers.
+// A function: both types are the library's, and it has no such conversion.
 pub fn flag_from_byte(byte: u8) -> Option<bool>
     ensures { result ≡ flag_of byte }
 {
@@ -118,7 +121,7 @@ impl From<TraceCall> for [u8; CALL_BYTES] {
 impl TryFrom<[u8; CALL_BYTES]> for TraceCall {
     type Error = DecodeError;
 
-    ghost try_from_gives = { λ bytes call. call ≡ ok_or (call_from bytes) malformed };
+    ghost try_from_gives = { λ bytes call. call ≡ ok_or (call_from bytes) Malformed };
 
     fn try_from(bytes: [u8; CALL_BYTES]) -> Result<TraceCall, DecodeError> {
         let [code, low, high, fill] = bytes;

@@ -1,6 +1,7 @@
 ghost use Rattle.std.specs.Prelude.{◌≡◌, IfOk, vec_items};
 ghost use Rattle.trace.specs.Format.{decode as decoded, encode as encoded, canonical as canonical_form, calls_of};
-ghost use Rattle.trace.specs.Traces.{trace_of, Finds, no_memory, refusal_number};
+ghost use Rattle.trace.specs.Traces.{trace_of, Finds, refusal_number};
+ghost use Rattle.trace.specs.declared.decoding.DecodeError.TheVariants.{NoMemory};
 
 use crate::call::{CALL_BYTES, TraceCall};
 use crate::sections::{are_entries, split};
@@ -29,7 +30,7 @@ impl DecodeError {
 }
 
 impl From<AllocError> for DecodeError {
-    ghost from_gives = { λ _ e. e ≡ no_memory };
+    ghost from_gives = { λ _ e. e ≡ NoMemory };
 
     fn from(_error: AllocError) -> DecodeError {
         DecodeError::NoMemory
@@ -37,7 +38,7 @@ impl From<AllocError> for DecodeError {
 }
 
 impl<T: Drop> From<AllocFailed<T>> for DecodeError {
-    ghost from_gives = { λ _ e. e ≡ no_memory };
+    ghost from_gives = { λ _ e. e ≡ NoMemory };
 
     fn from(_refused: AllocFailed<T>) -> DecodeError {
         DecodeError::NoMemory

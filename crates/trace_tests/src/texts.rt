@@ -4,10 +4,7 @@ use std::alloc::Global;
 use std::test::Fail;
 
 fn error_of(heap: Global, text: &[u8]) -> Option<AssemblyError> {
-    match assemble(heap, text) {
-        Ok(_) => None,
-        Err(error) => Some(error),
-    }
+    assemble(heap, text).err()
 }
 
 #[test]

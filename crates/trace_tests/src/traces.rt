@@ -6,11 +6,7 @@ use trace::decoding::{DecodeError, decode};
 use trace::trace::{PLAN_MAX, Trace};
 
 fn is_malformed(heap: Global, bytes: &[u8]) -> bool {
-    match decode(heap, bytes) {
-        Ok(_) => false,
-        Err(DecodeError::Malformed) => true,
-        Err(DecodeError::NoMemory) => false,
-    }
+    matches!(decode(heap, bytes), Err(DecodeError::Malformed))
 }
 
 #[test]

@@ -2,9 +2,7 @@
 use crate::count::Count;
 use crate::route::Route;
 use crate::trial_error::TrialError;
-use disk::error::DiskError;
-use errors::{CacheError, VolumeError};
-use ordered::progress::Progress;
+use errors::Progress;
 
 // No drain of the trial is longer.
 const MOST_STEPS: u32 = 32;
@@ -55,7 +53,8 @@ fn drained<R: Route>(cache: &mut R) -> Result<u32, TrialError> {
     for steps in 0..MOST_STEPS {
         match cache.go_on() {
             Ok(Progress::Idle) => return Ok(steps),
-            Ok(_) | Err(CacheError::Volume(_, VolumeError::Disk(DiskError::Fault(_)))) => {}
+            Ok(_) => {}
+            Err(error) if error.fault().is_some() => {}
             Err(error) => return Err(error.into()),
         }
     }

@@ -3,15 +3,13 @@ use crate::acts::{DISTANCE, SIDE, mark_read, old_disk};
 use crate::count::NEW;
 use crate::trial_error::TrialError;
 use disk::disk::BenchDisk;
-use errors::CacheError;
-use group::turn::Progress as GroupProgress;
+use errors::{CacheError, Progress};
 use journal::live::Live as JournaledCache;
 use journal_volume::cold::Cold as JournalVolume;
 use mark::Mark;
 use memdisk::held::HeldDisk;
 use ordered::cold::Cold as OrderedVolume;
 use ordered::live::Live as OrderedCache;
-use ordered::progress::Progress;
 use precedence::Overlap;
 use std::alloc::Global;
 
@@ -94,11 +92,7 @@ impl Route for JournaledCache<HeldDisk> {
     }
 
     fn go_on(&mut self) -> Result<Progress, CacheError> {
-        Ok(match self.step()? {
-            GroupProgress::Idle => Progress::Idle,
-            GroupProgress::Written => Progress::Written,
-            GroupProgress::Flushed => Progress::Flushed,
-        })
+        self.step()
     }
 
     fn seen_after(self, choice: u8) -> Result<Mark, TrialError> {

@@ -3,7 +3,8 @@ use Rattle.std.specs.List.{position}
 use Rattle.std.specs.Option.{option_map}
 use Rattle.std.proofs.lemmas.Iterator.{YieldsList-from_slice}
 use Rattle.std.proofs.lemmas.Iterator.Search.{position_from_yields_List}
-use Rattle.assembly.specs.Words.{is_blank, is_dark, words, listed, both_now}
+use Rattle.assembly.specs.Words.{is_blank, is_dark, words, listed}
+use Rattle.trace.specs.Lent.{both_now}
 use Rattle.assembly.proofs.Splitting.{behind, no_word, end_found, found_word}
 use Rattle.assembly.proofs.words.first_word.Goals as goal
 

@@ -1,31 +1,31 @@
-use Rattle.std.proofs.Common.{◌≡◌, sym, refl, ap, ◌∙◌, subst, arith}
+use Rattle.std.proofs.Common.{◌≡◌, sym, refl, subst, arith, rules}
 use Rattle.disk.specs.declared.error.Kind.TheVariants.{Read}
 use Rattle.disk.specs.Calls.{Reads, answer, failed}
 use Rattle.retry.specs.Retried.{retry_medium, tripled}
 use Rattle.retry.proofs.Retries as retries
+use Rattle.retry.proofs.Trying.{by_tries}
 use Rattle.retry.proofs.RetryDisk.read.Goals as goal
-
-pub loop-attempt-init : goal.loop-attempt-init
-loop-attempt-init g c = (refl, λ j h. absurd (omega arith), refl)
-
-pub returns-then-not-faulty : goal.returns-then-not-faulty
-returns-then-not-faulty g c =
-    let i = c.loop-attempt.attempt in
-    let m = g.D.Disk.medium c.args.self.now.disk in
-    retries.read_stops g.D.Disk.attempts m c.args.place c.args.buffer.now i (g.D.Disk.medium c.loop-attempt.self.disk) c.read-answer.result (g.D.Disk.medium c.read-answer.new.self) c.read-answer.new.buffer c.loop-attempt-test.true c.loop-attempt.invariant.0 c.loop-attempt.invariant.1 (subst (λ b. Reads g.D.Disk.attempts (g.D.Disk.medium c.loop-attempt.self.disk) c.args.place b c.read-answer.result (g.D.Disk.medium c.read-answer.new.self) c.read-answer.new.buffer) c.loop-attempt.invariant.2 c.read-answer.ensures) (sym c.faulty.ensures ∙ c.if-not-faulty.true)
-
-pub loop-attempt-preserved : goal.loop-attempt-preserved
-loop-attempt-preserved g c =
-    let i = c.loop-attempt.attempt in
-    let m = g.D.Disk.medium c.args.self.now.disk in
-    retries.read_more g.D.Disk.attempts m c.args.place c.args.buffer.now i (g.D.Disk.medium c.loop-attempt.self.disk) c.read-answer.result (g.D.Disk.medium c.read-answer.new.self) c.read-answer.new.buffer c.loop-attempt.invariant.0 c.loop-attempt.invariant.1 (subst (λ b. Reads g.D.Disk.attempts (g.D.Disk.medium c.loop-attempt.self.disk) c.args.place b c.read-answer.result (g.D.Disk.medium c.read-answer.new.self) c.read-answer.new.buffer) c.loop-attempt.invariant.2 c.read-answer.ensures) (sym c.faulty.ensures ∙ c.if-not-faulty.false)
 
 pub returns : goal.returns
 returns g c =
-    let m = g.D.Disk.medium c.args.self.now.disk in
-    let below = g.D.Disk.medium c.loop-attempt.self.disk in
-    let all : c.loop-attempt.attempt ≡ 3 = omega arith in
-    let same = c.loop-attempt.invariant.0 ∙ ap (λ i. retries.after_faults i m) all in
-    let tried = subst (λ i. retries.Failed m c.args.place c.args.buffer.now i) all c.loop-attempt.invariant.1 in
-    let fails = subst (λ b. Reads (tripled g.D.Disk.attempts) (retry_medium m) c.args.place c.args.buffer.now (answer (tripled g.D.Disk.attempts) Read c.args.place failed) (retry_medium below) b) (sym c.loop-attempt.invariant.2) (retries.read_fails g.D.Disk.attempts m c.args.place c.args.buffer.now below same tried) in
-    subst (λ t. Reads (tripled g.D.Disk.attempts) (retry_medium m) c.args.place c.args.buffer.now (answer t Read c.args.place failed) (retry_medium below) c.loop-attempt.buffer) (sym c.tries.ensures) fails
+    let medium = g.D.Disk.medium in
+    let m = medium c.args.self.now.disk in
+    let t = g.D.Disk.attempts in
+    let place = c.args.place in
+    let bytes = c.args.buffer.now in
+    let done : Reads (tripled t) (retry_medium m) place bytes c.tried.result (retry_medium (medium c.tried.new.call.0.now)) c.tried.new.call.2.now =
+    by_tries _ _
+    (λ i f. (medium f.0.now ≡ retries.after_faults i m) × retries.Failed m place bytes i × (f.2.now ≡ bytes) × (f.1.now ≡ place))
+    (λ r f. Reads (tripled t) (retry_medium m) place bytes r (retry_medium (medium f.0.now)) f.2.now)
+    (λ i p s o h j did ok.
+    let made : Reads t (medium p.0.now) p.1.now p.2.now s (medium o.0.now) o.2.now = search rules in
+    retries.read_stops t m place bytes i (medium p.0.now) s (medium o.0.now) o.2.now h j.0 j.1 (subst (λ b. Reads t (medium p.0.now) place b s (medium o.0.now) o.2.now) j.2 (subst (λ a. Reads t (medium p.0.now) a p.2.now s (medium o.0.now) o.2.now) j.3 made)) ok)
+    (λ i p s o j did bad.
+    let made : Reads t (medium p.0.now) p.1.now p.2.now s (medium o.0.now) o.2.now = search rules in
+    let still : o.1.now ≡ place = search rules in
+    let more = retries.read_more t m place bytes i (medium p.0.now) s (medium o.0.now) o.2.now j.0 j.1 (subst (λ b. Reads t (medium p.0.now) place b s (medium o.0.now) o.2.now) j.2 (subst (λ a. Reads t (medium p.0.now) a p.2.now s (medium o.0.now) o.2.now) j.3 made)) bad in
+    (more.0, more.1, more.2, still))
+    (λ p j. subst (λ r. Reads (tripled t) (retry_medium m) place bytes r (retry_medium (medium p.0.now)) p.2.now) (sym c.fault-fault.ensures)
+    (subst (Reads (tripled t) (retry_medium m) place bytes (answer (tripled t) Read place failed) (retry_medium (medium p.0.now))) (sym j.2) (retries.read_fails t m place bytes _ j.0 j.1)))
+    _ c.tried.result c.tried.new.call (refl, λ j h. absurd (omega arith), refl, refl) c.tried.ensures in
+    search rules

@@ -1,48 +1,38 @@
-use Rattle.std.proofs.Common.{◌≡◌, sym, refl, ap, ◌∙◌, subst, arith}
-use Rattle.disk.specs.declared.error.Kind.TheVariants.{Write}
+use Rattle.std.proofs.Common.{◌≡◌, true, sym, refl, ◌∙◌, subst, arith, rules}
 use Rattle.disk.specs.Medium as medium
 use Rattle.disk.proofs.Media.{joined_or_settled}
-use Rattle.disk.specs.Calls.{WritesBy, answer, failed}
+use Rattle.disk.specs.Calls.{WritesBy, is_fault}
 use Rattle.retry.specs.Retried.{retry_medium, tripled}
 use Rattle.retry.proofs.Retries as retries
+use Rattle.retry.proofs.Trying.{by_tries}
 use Rattle.retry.proofs.RetryDisk.write.Goals as goal
-
-pub loop-attempt-init : goal.loop-attempt-init
-loop-attempt-init g c = (refl, λ j h. absurd (omega arith), λ w. refl)
-
-pub returns-then-not-faulty : goal.returns-then-not-faulty
-returns-then-not-faulty g c =
-    let i = c.loop-attempt.attempt in
-    let m = g.D.Disk.medium c.args.self.now.disk in
-    let w : medium.Write = record { place = c.args.place; bytes = c.args.bytes.now } in
-    let kept = c.loop-attempt.invariant.2 w in
-    let no_fault = sym c.faulty.ensures ∙ c.if-not-faulty.true in
-    let done = subst (λ effect. WritesBy effect (tripled g.D.Disk.attempts) (retry_medium m) c.args.place c.args.bytes.now c.write-answer.result (retry_medium (g.D.Disk.medium c.write-answer.new.self))) kept
-    (retries.write_stops g.D.Disk.attempts m c.args.place c.args.bytes.now i (g.D.Disk.medium c.loop-attempt.self.disk) c.write-answer.result (g.D.Disk.medium c.write-answer.new.self) c.loop-attempt-test.true c.loop-attempt.invariant.0 c.loop-attempt.invariant.1 _ c.write-answer.ensures.outcome no_fault) in
-    record {
-      outcome = done;
-      either = joined_or_settled _ _ c.args.place c.args.bytes.now _ _ _ done;
-      keeps = λ f v. c.write-answer.ensures.keeps f v ∙ c.loop-attempt.invariant.2 v;
-    }
-
-pub loop-attempt-preserved : goal.loop-attempt-preserved
-loop-attempt-preserved g c =
-    let i = c.loop-attempt.attempt in
-    let m = g.D.Disk.medium c.args.self.now.disk in
-    let fault = sym c.faulty.ensures ∙ c.if-not-faulty.false in
-    let more = retries.write_more g.D.Disk.attempts m c.args.place c.args.bytes.now i (g.D.Disk.medium c.loop-attempt.self.disk) c.write-answer.result (g.D.Disk.medium c.write-answer.new.self) c.loop-attempt.invariant.0 c.loop-attempt.invariant.1 _ c.write-answer.ensures.outcome fault in
-    (more.0, more.1, λ v. c.write-answer.ensures.keeps fault v ∙ c.loop-attempt.invariant.2 v)
 
 pub returns : goal.returns
 returns g c =
-    let m = g.D.Disk.medium c.args.self.now.disk in
-    let below = g.D.Disk.medium c.loop-attempt.self.disk in
-    let all : c.loop-attempt.attempt ≡ 3 = omega arith in
-    let same = c.loop-attempt.invariant.0 ∙ ap (λ i. retries.after_faults i m) all in
-    let tried = subst (λ i. retries.Failed m c.args.place c.args.bytes.now i) all c.loop-attempt.invariant.1 in
-    let done = subst (λ t. WritesBy (g.D.Disk.rule c.args.self.now.disk (record { place = c.args.place; bytes = c.args.bytes.now })) (tripled g.D.Disk.attempts) (retry_medium m) c.args.place c.args.bytes.now (answer t Write c.args.place failed) (retry_medium below)) (sym c.tries.ensures) (retries.write_fails g.D.Disk.attempts m c.args.place c.args.bytes.now below same tried _) in
-    record {
-      outcome = done;
-      either = joined_or_settled _ _ c.args.place c.args.bytes.now _ _ _ done;
-      keeps = λ f v. c.loop-attempt.invariant.2 v;
-    }
+    let med = g.D.Disk.medium in
+    let rule = g.D.Disk.rule in
+    let d = c.args.self.now.disk in
+    let m = med d in
+    let t = g.D.Disk.attempts in
+    let place = c.args.place in
+    let bytes = c.args.bytes.now in
+    let w : medium.Write = record { place = place; bytes = bytes } in
+    let done : WritesBy (rule d w) (tripled t) (retry_medium m) place bytes c.tried.result (retry_medium (med c.tried.new.call.0.now)) × (is_fault c.tried.result ≡ true → (v : medium.Write) → rule c.tried.new.call.0.now v ≡ rule d v) =
+    by_tries _ _
+    (λ i f. (med f.0.now ≡ retries.after_faults i m) × retries.Failed m place bytes i × ((v : medium.Write) → rule f.0.now v ≡ rule d v) × (f.1.now ≡ place) × (f.2.now ≡ bytes))
+    (λ r f. WritesBy (rule d w) (tripled t) (retry_medium m) place bytes r (retry_medium (med f.0.now)) × (is_fault r ≡ true → (v : medium.Write) → rule f.0.now v ≡ rule d v))
+    (λ i p s o h j did ok.
+    let made : WritesBy (rule p.0.now (record { place = p.1.now; bytes = p.2.now })) t (med p.0.now) p.1.now p.2.now s (med o.0.now) = search rules in
+    let at = subst (λ b. WritesBy (rule p.0.now (record { place = place; bytes = b })) t (med p.0.now) place b s (med o.0.now)) j.4 (subst (λ a. WritesBy (rule p.0.now (record { place = a; bytes = p.2.now })) t (med p.0.now) a p.2.now s (med o.0.now)) j.3 made) in
+    let keeps : is_fault s ≡ true → (v : medium.Write) → rule o.0.now v ≡ rule p.0.now v = search rules in
+    (subst (λ effect. WritesBy effect (tripled t) (retry_medium m) place bytes s (retry_medium (med o.0.now))) (j.2 w) (retries.write_stops t m place bytes i (med p.0.now) s (med o.0.now) h j.0 j.1 _ at ok), λ f v. keeps f v ∙ j.2 v))
+    (λ i p s o j did bad.
+    let made : WritesBy (rule p.0.now (record { place = p.1.now; bytes = p.2.now })) t (med p.0.now) p.1.now p.2.now s (med o.0.now) = search rules in
+    let at = subst (λ b. WritesBy (rule p.0.now (record { place = place; bytes = b })) t (med p.0.now) place b s (med o.0.now)) j.4 (subst (λ a. WritesBy (rule p.0.now (record { place = a; bytes = p.2.now })) t (med p.0.now) a p.2.now s (med o.0.now)) j.3 made) in
+    let keeps : (v : medium.Write) → rule o.0.now v ≡ rule p.0.now v = search rules in
+    let still : (o.1.now ≡ place) × (o.2.now ≡ bytes) = search rules in
+    let more = retries.write_more t m place bytes i (med p.0.now) s (med o.0.now) j.0 j.1 _ at bad in
+    (more.0, more.1, λ v. keeps v ∙ j.2 v, still.0, still.1))
+    (λ p j. (subst (λ r. WritesBy (rule d w) (tripled t) (retry_medium m) place bytes r (retry_medium (med p.0.now))) (sym c.fault-fault.ensures) (retries.write_fails t m place bytes _ j.0 j.1 (rule d w)), λ f v. j.2 v))
+    _ c.tried.result c.tried.new.call (refl, λ j h. absurd (omega arith), λ v. refl, refl, refl) c.tried.ensures in
+    record { outcome = done.0; either = joined_or_settled _ _ place bytes _ _ _ done.0; keeps = done.1 }

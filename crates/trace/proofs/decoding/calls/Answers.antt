@@ -4,11 +4,11 @@ use Rattle.std.proofs.lemmas.Result.{err_from_is_err_and}
 use Rattle.std.proofs.lemmas.Slice.{pushed}
 use Rattle.trace.specs.declared.call.TraceCall.{TraceCall}
 use Rattle.trace.specs.declared.decoding.DecodeError.{DecodeError}
-use Rattle.trace.specs.Traces.{malformed}
+use Rattle.trace.specs.declared.decoding.DecodeError.TheVariants.{Malformed}
 use Rattle.trace.proofs.Listing.{after, after_nothing, calls_in, calls_by_fours, calls_left_over, after_none, after_more}
 use Rattle.trace.proofs.decoding.calls.Goals as goal
 
-refused : (o : Option TraceCall) (e : DecodeError) → ok_or o malformed ≡ Err e → (o ≡ None) × (malformed ≡ e)
+refused : (o : Option TraceCall) (e : DecodeError) → ok_or o Malformed ≡ Err e → (o ≡ None) × (Malformed ≡ e)
 refused o e h = grind arith
 
 pub returns-then-not-is_empty : goal.returns-then-not-is_empty

@@ -126,7 +126,6 @@ invariant_of-self g c =
       once = s.once;
       places = subst (λ (l : List Begun). different s.home (map place_of (write_list s.collected) ++ map begun_place l) ≤ 8) (sym list)
           (omega (arith, room_begin s.home (begun_list s.opens) (write_list s.collected) new, subst (λ p. different s.home (p ∷ (map place_of (write_list s.collected) ++ ps)) ≤ 8) (sym at) few));
-      turn = s.turn;
     }
 
 pub returns : goal.returns

@@ -1,4 +1,4 @@
-use Rattle.std.proofs.Common.{ℕ, List, Bor, sym, ap, ◌∙◌}
+use Rattle.std.proofs.Common.{◌≡◌, ℕ, List, Bor, Some, None, sym, ap, ◌∙◌, rules}
 use mathlib.Core.Option.{none}
 use Rattle.std.specs.Option.{option_map}
 use Rattle.journal_law.specs.Cache.{cached, group_writes}
@@ -11,16 +11,19 @@ use Rattle.journal.proofs.live.Live.cached.Goals as goal
 pub returns-in-Some : goal.returns-in-Some
 returns-in-Some g c =
     let s = c.args.self.now in
-    cached_collected c.args.place (write_list s.collected) (group_writes (under_way s.group s.phase)) c.in-Some.bytes.now c.in-Some.ensures
+    cached_collected c.args.place (write_list s.collected) (group_writes (under_way s.group)) c.in-Some.bytes.now c.in-Some.ensures
 
-pub returns-then-is_some : goal.returns-then-is_some
-returns-then-is_some g c =
+pub returns-in_err-as_ref : goal.returns-in_err-as_ref
+returns-in_err-as_ref g c =
     let s = c.args.self.now in
-    cached_grouped c.args.place (write_list s.collected) (group_writes (under_way s.group s.phase)) (maybe (option_map (λ (b : Bor (List ℕ)). b.now) c.bytes_at-then-is_some.result)) c.in_default.ensures
-    (c.bytes_at-then-is_some.ensures ∙ ap (cached c.args.place) (sym (some_group s.group s.phase c.if-is_some.ensures)))
+    let gone : s.group ≡ None = search rules in
+    ap (λ o. maybe (option_map (λ (b : Bor (List ℕ)). b.now) o)) c.from_residual.ensures
+    ∙ cached_grouped c.args.place (write_list s.collected) (group_writes (under_way s.group)) none c.in_default.ensures (ap (cached c.args.place) (sym (no_group s.group gone)))
 
 pub returns : goal.returns
 returns g c =
     let s = c.args.self.now in
-    cached_grouped c.args.place (write_list s.collected) (group_writes (under_way s.group s.phase)) none c.in_default.ensures
-    (ap (cached c.args.place) (sym (no_group s.group s.phase c.if-is_some.ensures)))
+    let group = c.in_ok-as_ref.field-0.now in
+    let held : s.group ≡ Some group = search rules in
+    cached_grouped c.args.place (write_list s.collected) (group_writes (under_way s.group)) (maybe (option_map (λ (b : Bor (List ℕ)). b.now) c.bytes_at-2.result)) c.in_default.ensures
+    (c.bytes_at-2.ensures ∙ ap (cached c.args.place) (sym (some_group s.group group held)))

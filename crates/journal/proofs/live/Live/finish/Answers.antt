@@ -28,7 +28,6 @@ invariant_of-self g c =
       below = s.below;
       once = s.once;
       places = subst (λ (l : List Begun). different s.home (map place_of (write_list s.collected) ++ map begun_place l) ≤ 8) (sym same) s.places;
-      turn = s.turn;
     }
 
 pub returns-in_default : goal.returns-in_default
@@ -72,7 +71,6 @@ invariant_of-self-2 g c =
       once = ap (λ (l : List Write). none_twice (map place_of l)) batch ∙ once_collect o.write (write_list s.collected) s.once;
       places = subst₂ (λ (x : List Write) (y : List Begun). different s.home (map place_of x ++ map begun_place y) ≤ 8) (sym batch) (sym rest)
           (omega (arith, s.places, room_finish s.home (begun_list s.opens) (write_list s.collected) ticket o found));
-      turn = s.turn;
     }
 
 pub returns : goal.returns

@@ -21,7 +21,6 @@ invariant_of-result g c =
       below = ap (λ (l : List Write). all_below n (map place_of l)) batch;
       once = ap (λ (l : List Write). none_twice (map place_of l)) batch;
       places = omega (arith, different_none n, ap (λ (l : List Write). different n (map place_of l ++ map begun_place (begun_list c.new.result))) batch, ap (λ (l : List Begun). different n (map begun_place l)) opens);
-      turn = refl;
     }
 
 pub returns : goal.returns

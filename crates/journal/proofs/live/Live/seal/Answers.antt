@@ -1,11 +1,12 @@
-use Rattle.std.proofs.Common.{◌≡◌, ◌≤◌, true, false, eqb, List, [], ◌++◌, map, length, sym, ap, ◌∙◌, subst, arith}
+use Rattle.std.proofs.Common.{◌≡◌, ◌≤◌, true, false, eqb, List, [], ◌++◌, map, length, ◌+◌, Some, sym, ap, ◌∙◌, subst, arith}
 use Rattle.std.proofs.lemmas.List.{length-map}
-use Rattle.std.proofs.lemmas.Bool.{eq-eqb, ne_eqb, le-leb, lt-leb, lt-ltb}
+use Rattle.std.proofs.lemmas.Bool.{eq-eqb, ne_eqb, le-leb, lt-leb}
 use Rattle.disk.specs.Medium.{Write}
 use Rattle.head.specs.Head.{all_below, none_twice}
-use Rattle.journal_law.specs.Cache.{seal, place_of, begun_place, different}
+use Rattle.journal_law.specs.Cache.{seal, slot, place_of, begun_place, different}
 use Rattle.journal_law.proofs.Entries.{room_seal}
-use Rattle.batch.specs.declared.rows.Batch.{Batch}
+use mathlib.Core.Option.{some}
+use Rattle.group.specs.Groups.{under_way}
 use Rattle.batch.specs.Rows.{entries, write_in, begun_list, write_list}
 use Rattle.journal.specs.Model.{model, met}
 use Rattle.journal.proofs.Outcomes.{runs_by, under_some, seal_0, seal_8, seal_9, seal_10}
@@ -16,7 +17,7 @@ returns-then-is_some g c =
     let s = c.args.self.now in
     let device = met g.D.Disk.medium g.D.Disk.rule g.D.Disk.attempts s in
     let v = model g.D.Disk.medium s in
-    let e = seal_9 device v (under_some s.group s.phase true c.if-is_some.ensures) in
+    let e = seal_9 device v (under_some s.group true c.if-is_some.ensures) in
     record { outcome = e; runs = runs_by device seal v _ e }
 
 pub returns-then-len-eq0 : goal.returns-then-len-eq0
@@ -25,7 +26,7 @@ returns-then-len-eq0 g c =
     let device = met g.D.Disk.medium g.D.Disk.rule g.D.Disk.attempts s in
     let v = model g.D.Disk.medium s in
     let bare : eqb (length v.collected) 0 ≡ true = eq-eqb (length v.collected) 0 (length-map (entries s.collected) write_in ∙ sym c.len.ensures ∙ c.if-len-eq0.true) in
-    let e = seal_8 device v (under_some s.group s.phase false c.if-is_some.ensures) bare in
+    let e = seal_8 device v (under_some s.group false c.if-is_some.ensures) bare in
     record { outcome = e; runs = runs_by device seal v _ e }
 
 pub returns-then-self-ge-LAST_NUMBER : goal.returns-then-self-ge-LAST_NUMBER
@@ -33,14 +34,14 @@ returns-then-self-ge-LAST_NUMBER g c =
     let s = c.args.self.now in
     let device = met g.D.Disk.medium g.D.Disk.rule g.D.Disk.attempts s in
     let v = model g.D.Disk.medium s in
-    let some : eqb (length v.collected) 0 ≡ false = ne_eqb (length v.collected) 0 (λ q. absurd (omega (arith, q, length-map (entries s.collected) write_in, c.len.ensures, c.if-len-eq0.false))) in
-    let e = seal_10 device v (under_some s.group s.phase false c.if-is_some.ensures) some (le-leb 4_294_967_295 s.last c.if-self-ge-LAST_NUMBER.true) in
+    let bare : eqb (length v.collected) 0 ≡ false = ne_eqb (length v.collected) 0 (λ q. absurd (omega (arith, q, length-map (entries s.collected) write_in, c.len.ensures, c.if-len-eq0.false))) in
+    let e = seal_10 device v (under_some s.group false c.if-is_some.ensures) bare (le-leb 4_294_967_295 s.last c.if-self-ge-LAST_NUMBER.true) in
     record { outcome = e; runs = runs_by device seal v _ e }
 
 pub invariant_of-self : goal.invariant_of-self
 invariant_of-self g c =
     let s = c.args.self.now in
-    let bare : write_list c.replace.new.dest ≡ [] = ap write_list c.replace.ensures.after ∙ ap (map write_in) c.new.ensures in record {
+    let bare : write_list c.replace-writes.new.dest ≡ [] = ap write_list c.replace-writes.ensures.after ∙ ap (map write_in) c.new.ensures in record {
       room = s.room;
       marks = s.marks;
       inside = s.inside;
@@ -48,7 +49,6 @@ invariant_of-self g c =
       below = ap (λ (l : List Write). all_below s.home (map place_of l)) bare;
       once = ap (λ (l : List Write). none_twice (map place_of l)) bare;
       places = subst (λ (l : List Write). different s.home (map place_of l ++ map begun_place (begun_list s.opens)) ≤ 8) (sym bare) (omega (arith, s.places, room_seal s.home (begun_list s.opens) (write_list s.collected)));
-      turn = lt-ltb 0 (length (entries c.replace.result)) (omega (arith, ap (λ (b : Batch). length (entries b)) c.replace.ensures.value, c.len.ensures, c.if-len-eq0.false));
     }
 
 pub returns : goal.returns
@@ -56,7 +56,8 @@ returns g c =
     let s = c.args.self.now in
     let device = met g.D.Disk.medium g.D.Disk.rule g.D.Disk.attempts s in
     let v = model g.D.Disk.medium s in
-    let some : eqb (length v.collected) 0 ≡ false = ne_eqb (length v.collected) 0 (λ q. absurd (omega (arith, q, length-map (entries s.collected) write_in, c.len.ensures, c.if-len-eq0.false))) in
-    let e = seal_0 device v (under_some s.group s.phase false c.if-is_some.ensures) some (lt-leb 4_294_967_295 s.last c.if-self-ge-LAST_NUMBER.false)
-    (write_list c.replace.new.dest) (write_list c.replace.result) (ap write_list c.replace.ensures.after ∙ ap (map write_in) c.new.ensures) (ap write_list c.replace.ensures.value) in
+    let bare : eqb (length v.collected) 0 ≡ false = ne_eqb (length v.collected) 0 (λ q. absurd (omega (arith, q, length-map (entries s.collected) write_in, c.len.ensures, c.if-len-eq0.false))) in
+    let e = seal_0 device v (under_some s.group false c.if-is_some.ensures) bare (lt-leb 4_294_967_295 s.last c.if-self-ge-LAST_NUMBER.false)
+    (write_list c.replace-writes.new.dest) (under_way (Some c.new-2.result)) (ap write_list c.replace-writes.ensures.after ∙ ap (map write_in) c.new.ensures)
+    (ap some (c.new-2.ensures ∙ ap (λ (ws : List Write). record { number = s.last + 1; writes = ws; phase = slot 0 }) (ap write_list c.replace-writes.ensures.value))) in
     record { outcome = e; runs = runs_by device seal v _ e }

@@ -23,7 +23,6 @@ invariant_of-self g c =
       once = s.once;
       places = subst (λ (l : List Begun). different s.home (map place_of (write_list s.collected) ++ map begun_place l) ≤ 8) (sym rest)
           (omega (arith, s.places, room_without s.home (begun_list s.opens) (write_list s.collected) ticket));
-      turn = s.turn;
     }
 
 pub returns-in_default : goal.returns-in_default

@@ -1,10 +1,12 @@
-use Rattle.std.proofs.Common.{◌≡◌, true, false, not, eqb, ltb, length, Ok, Err, sym, refl, ap, ◌∙◌, arith}
+use Rattle.std.proofs.Common.{◌≡◌, true, false, not, eqb, ltb, length, Ok, Err, sym, refl, ◌∙◌, arith}
 use Rattle.std.proofs.lemmas.Bool.Decides.{nat_tests}
 use Rattle.disk.specs.Medium.{size}
 use Rattle.errors.specs.declared.CacheError.TheVariants.{Length, Place}
-use Rattle.table.specs.declared.rows.Table.{Table}
+use Rattle.errors.specs.Errors.{raised}
+use Rattle.errors.specs.declared.CacheCall.TheVariants as during
 use Rattle.ordered_law.specs.Events.{Read}
 use Rattle.ordered.specs.Model.{model, device}
+use Rattle.ordered.specs.Reading.{read_answer}
 use Rattle.ordered.proofs.Outcomes.{goes_on, shows_newest, read_1, read_2, read_table, read_below}
 use Rattle.ordered.proofs.live.Live.read.Goals as goal
 
@@ -53,6 +55,7 @@ returns g c =
     let lawful = g.met.P.Precedence.lawful c.args.self.now.order in
     let short : not (eqb (length b) 512) ≡ false = grind (arith, nat_tests) in
     let beyond : not (ltb place (size m.medium)) ≡ false = grind (arith, nat_tests, c.size.ensures) in
-    let did = c.read_disk.ensures in
-    let e = read_below met place b m short beyond (sym c.in_default.ensures.value) did.answer did.medium did.buffer (ap (λ (t : Table). t.rows) did.table) did.counter did.counts in
-    record { outcome = e.0; buffer = e.1; newest = shows_newest lawful met place (length b) c.read_disk.result c.read_disk.new.buffer e.0; order = did.order; runs = goes_on lawful met (Read place (length b)) e.0 }
+    let did = c.read.ensures in
+    let handed : c.during.result ≡ raised during.Read (read_answer met.tries m.medium place (length b)) = rw (c.during.ensures, did.answers) in
+    let e = read_below met place b m short beyond (sym c.in_default.ensures.value) handed did.after did.buffer refl refl refl in
+    record { outcome = e.0; buffer = e.1; newest = shows_newest lawful met place (length b) c.during.result c.read.new.buffer e.0; order = refl; runs = goes_on lawful met (Read place (length b)) e.0 }

@@ -1,4 +1,4 @@
-use Rattle.std.proofs.Common.{sym, refl, ap}
+use Rattle.std.proofs.Common.{sym, refl}
 use Rattle.ordered_law.specs.Events.{Step}
 use Rattle.ordered.specs.Model.{model, device}
 use Rattle.ordered.specs.Grants.{job}
@@ -26,8 +26,8 @@ returns-in-Some g c =
     let lawful = g.met.P.Precedence.lawful c.args.self.now.order in
     let did = c.settle.ensures in
     let e = step_sends precedes rule tries m (sym c.if-not-any.ensures) (job c.in-Some.grant) c.in-Some.ensures c.write-answer.ensures.outcome
-    did.answer (ap g.D.Disk.medium did.disk) did.rows did.counter did.counts in
-    record { outcome = e; order = did.order; runs = goes_on lawful met Step e }
+    did.answer refl did.rows refl refl in
+    record { outcome = e; order = refl; runs = goes_on lawful met Step e }
 
 pub returns-then-not-any-2 : goal.returns-then-not-any-2
 returns-then-not-any-2 g c =
