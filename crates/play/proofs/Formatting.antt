@@ -1,6 +1,7 @@
 -- A format over a disk whose writes join.
 use Rattle.std.proofs.Common.{◌≡◌, ℕ, ◌+◌, ◌<◌, ◌≤◌, true, false, cond, List, [], ◌∷◌, length, get_or, set, is_err, Err, sym, refl, ap, ◌∙◌, subst, arith, le-ltb}
 use Rattle.std.proofs.lemmas.List.{get_or-set_same}
+use borrow.Author.Tests.{clash}
 use Rattle.disk.specs.Medium.{Write, Entry, good, bad, Medium, join, size, due, later, lay, standing, current, passed, flushed, put}
 use Rattle.disk.specs.declared.error.Kind.TheVariants as kind
 use Rattle.errors.specs.declared.VolumeError.TheVariants as volume
@@ -12,9 +13,6 @@ use Rattle.journal_law.proofs.Media.{length_lay, current_wrote, wrote_plan, leng
 use Rattle.journal_law.proofs.Start.{blank_decodes}
 use Rattle.play.specs.Histories.{Recoverable}
 use Rattle.play.specs.InJournal.{is_fault, format_faults, format_leaves}
-
-clash : {A : Type 0} → true ≡ false → A
-clash e = let z : ◌≡◌ {A = ℕ} 0 1 = cc in absurd (omega arith)
 
 -- what a part of a format came to, of a medium m: a fault took an entry off the plan, or it went through and left `done`
 pub data Came (f : Formatted) (m done : Medium) : Type 0 where
@@ -71,7 +69,7 @@ module _ (tries : ℕ) (m : Medium) where
     where
       by : Came (formatted tries join m) m (flushed written) → (length (format_leaves tries m).plan < length m.plan) × (10 ≤ size (format_leaves tries m))
       by (broken f r h s) = (h, omega (arith, s))
-      by (through f r h) = clash (sym e ∙ f)
+      by (through f r h) = absurd (clash (sym f ∙ e))
 
   -- a format is refused by a fault alone
   pub format_refused : 10 ≤ size m → is_err (formatted tries join m).answer ≡ format_faults tries m
@@ -85,7 +83,7 @@ module _ (tries : ℕ) (m : Medium) where
   format_done room e = by (format_came room)
     where
       by : Came (formatted tries join m) m (flushed written) → format_leaves tries m ≡ flushed written
-      by (broken f r h s) = clash (sym f ∙ e)
+      by (broken f r h s) = absurd (clash (sym e ∙ f))
       by (through f r h) = h
 
 -- an idle volume of number 0, as some recovery may have left it

@@ -1,6 +1,7 @@
 -- A recovery over a disk whose writes join.
 use Rattle.std.proofs.Common.{◌≡◌, ℕ, suc, ◌-◌, ◌<◌, ◌≤◌, Bool, true, false, cond, eqb, ltb, List, [], ◌∷◌, length, get_or, replicate, Ok, Err, sym, refl, ap, ◌∙◌, arith}
 use mathlib.Core.Option.{Option, some, none}
+use borrow.Author.Tests.{clash}
 use Rattle.disk.specs.declared.error.DiskError.{DiskError}
 use Rattle.disk.specs.Medium.{Write, Effect, join, Entry, good, bad, Medium, size, due, later, current, put}
 use Rattle.errors.specs.declared.VolumeError.{VolumeError}
@@ -14,9 +15,6 @@ use Rattle.journal_volume.proofs.Going.{calls_size}
 use Rattle.journal_volume.proofs.Ending.{left_size}
 use Rattle.play.specs.Histories.{Recoverable}
 use Rattle.play.specs.InJournal.{is_broken, number_in, Recovered, recovery, recovered_from, recovery_breaks, recovery_leaves}
-
-clash : {A : Type 0} → true ≡ false → A
-clash e = let z : ◌≡◌ {A = ℕ} 0 1 = cc in absurd (omega arith)
 
 -- ---- a recovery that is broken off took an entry off the plan
 
@@ -89,9 +87,9 @@ module _ (n : ℕ) (effect : Effect) (m : Medium) where
   breaks_shorter (home_flush h) d e b = bad_shorter m.plan d
   breaks_shorter (write_empty h) d e b = bad_shorter m.plan d
   breaks_shorter (last_flush h) d e b = bad_shorter m.plan d
-  breaks_shorter (recovered k) d e b = clash (sym b)
-  breaks_shorter no_head d e b = clash (sym b)
-  breaks_shorter (failed k place) d e b = clash e
+  breaks_shorter (recovered k) d e b = absurd (clash b)
+  breaks_shorter no_head d e b = absurd (clash b)
+  breaks_shorter (failed k place) d e b = absurd (clash (sym e))
 
 -- one disk call
 call_no_longer : (n : ℕ) (effect : Effect) (r : Recovery) → length (one_call n effect r).medium.plan ≤ length r.medium.plan
@@ -106,7 +104,7 @@ call_breaks n effect r e b = go (due r.medium.plan) refl b
   where
     go : (d : Entry) → due r.medium.plan ≡ d → is_broken (by_entry {A = Recovery} d (good_call n effect r.medium r.stage) (bad_call n r.medium r.stage)).stage ≡ true →
         length (by_entry {A = Recovery} d (good_call n effect r.medium r.stage) (bad_call n r.medium r.stage)).medium.plan < length r.medium.plan
-    go good d broke = clash (sym broke ∙ good_unbroken n effect r.medium r.stage e)
+    go good d broke = absurd (clash (sym (good_unbroken n effect r.medium r.stage e) ∙ broke))
     go bad d broke = breaks_shorter n effect r.medium r.stage d e broke
 
 calls_no_longer : (n : ℕ) (es : List Effect) (r : Recovery) → length (calls n es r).medium.plan ≤ length r.medium.plan
@@ -114,7 +112,7 @@ calls_no_longer n [] r = omega arith
 calls_no_longer n (e ∷ es) r = omega (arith, calls_no_longer n es (one_call n e r), call_no_longer n e r)
 
 calls_break : (n : ℕ) (es : List Effect) (r : Recovery) → is_broken r.stage ≡ false → is_broken (calls n es r).stage ≡ true → length (calls n es r).medium.plan < length r.medium.plan
-calls_break n [] r e b = clash (sym b ∙ e)
+calls_break n [] r e b = absurd (clash (sym e ∙ b))
 calls_break n (f ∷ es) r e b = go (is_broken (one_call n f r).stage) refl (λ q. calls_break n es (one_call n f r) q b)
   where
     go : (t : Bool) → is_broken (one_call n f r).stage ≡ t →

@@ -1,4 +1,5 @@
-use Rattle.std.proofs.Common.{◌≡◌, ℕ, true, false, vec_items, sym, ap, ◌∙◌, arith}
+use Rattle.std.proofs.Common.{◌≡◌, true, false, vec_items, sym, ap, ◌∙◌}
+use borrow.Author.Tests.{clash}
 use Rattle.memdisk.specs.Making.{usable, fresh}
 use Rattle.play.proofs.Usable.{usable_blank}
 use Rattle.play.proofs.blank.blank_held.Goals as goal
@@ -8,8 +9,7 @@ unreachable-requires c =
     let zeros = c.in_ok-memory.ensures.items_if_clones_equal (λ y e. e) in
     let copied = c.in_ok-from_slice.ensures.items in
     let both : true ≡ false = sym (usable_blank c.args.plan.now c.requires) ∙ sym (ap (λ m. usable m c.args.plan.now) zeros) ∙ sym (ap (usable (vec_items c.in_ok-memory.memory)) copied) ∙ c.in_default.ensures.0 in
-    let z : ◌≡◌ {A = ℕ} 0 1 = cc in
-    omega arith
+    clash (sym both)
 
 pub returns : goal.returns
 returns c =
