@@ -100,9 +100,7 @@ pub fn decode(home: usize, block: &[u8]) -> Option<Head>
     ensures no_other { (h : ModelHead) → found result ≡ some h → (block.now ≡ encoded h) × (fitting home h ≡ true) }
     ensures every_head { (h : ModelHead) → home ≤ 65536 → block.now ≡ encoded h → fitting home h ≡ true → found result ≡ some h }
 {
-    let Ok(block) = <&[u8; BLOCK]>::try_from(block) else {
-        return None;
-    };
+    let block = block.as_array::<BLOCK>()?;
     if usize::from(block[5]) > MOST_PLACES {
         return None;
     }

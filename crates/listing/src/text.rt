@@ -11,10 +11,7 @@ pub fn render(heap: Global, lines: &[Line]) -> Result<String, AllocError>
 {
     let mut text = String::new(heap);
     for line in lines {
-        // a write to text fails for want of memory alone
-        let Ok(()) = writeln!(text, "{line}") else {
-            return Err(AllocError);
-        };
+        writeln!(text, "{line}")?;
     }
     Ok(text)
 }

@@ -211,17 +211,17 @@ module _ (precedes : Precedence) (lawful : Lawful precedes) (opening : List Bloc
       Kept (map bring_home l) (record { medium = c.medium; table = held (map bring_home c.table); counter = c.counter; counts = c.counts })
   keep_homed l c i firm stay = record {
     table_is = ap (λ (x : List Version). held (map bring_home x)) i.table_is ∙ held_again bring_home (λ v h. grind arith) l;
-    book = book_change precedes n bring_home (home_change precedes n) l i.book.sound n (sound_home n) i.book.order (all_of _ l (λ v j h. absurd (None v h)));
+    book = book_change precedes n bring_home (home_change precedes n) l i.book.sound n (sound_home n) i.book.order (all_of _ l (λ v j h. absurd (not_sent v h)));
     store = stored_change precedes n bring_home (home_change precedes n) l i.book.sound opening n c.medium.firm c.medium.loose (omega arith) i.store
         (all_both _ _ _ (λ v s h e. ⊎_elim s h (cases v.state e)) l firm i.store.firm_ok.home_in) stay;
-    sent_in = all_map (λ _. Unit {0}) _ bring_home (λ v _ h. absurd (None v h)) l (all_of _ l (λ _ _. tt));
+    sent_in = all_map (λ _. Unit {0}) _ bring_home (λ v _ h. absurd (not_sent v h)) l (all_of _ l (λ _ _. tt));
   }
     where
       n : ℕ
       n = c.counter
 
-      None : (v : Version) → is_sent (bring_home v).state ≡ true → ⊥
-      None v h = grind arith
+      not_sent : (v : Version) → is_sent (bring_home v).state ≡ true → ⊥
+      not_sent v h = grind arith
 
       cases : (s : State) → cond (is_sent s) Home s ≡ Home → (is_sent s ≡ true) ⊎ (s ≡ Home)
       cases Open e = inr e
@@ -259,17 +259,17 @@ module _ (precedes : Precedence) (lawful : Lawful precedes) (opening : List Bloc
   keep_restart : (l : List Version) (c : Sorted) (choice : ℕ) → Kept l c → Good l (Restart choice) (sorted_restart choice c)
   keep_restart l c choice i = record {
     table_is = ap (map wait_again) i.table_is ∙ sym (held_map wait_again (λ v. grind arith) l);
-    book = book_change precedes n wait_again (wait_change precedes n) l i.book.sound n (sound_wait n) i.book.order (all_of _ l (λ v j h. absurd (None v h)));
+    book = book_change precedes n wait_again (wait_change precedes n) l i.book.sound n (sound_wait n) i.book.order (all_of _ l (λ v j h. absurd (not_sent v h)));
     store = stored_change precedes n wait_again (wait_change precedes n) l i.book.sound opening n _ _ (omega arith) (cut_store l c i choice)
         (All-weaker _ _ (λ v h e. h (grind arith)) l (cut_store l c i choice).firm_ok.home_in) tt;
-    sent_in = all_map (λ _. Unit {0}) _ wait_again (λ v _ h. absurd (None v h)) l (all_of _ l (λ _ _. tt));
+    sent_in = all_map (λ _. Unit {0}) _ wait_again (λ v _ h. absurd (not_sent v h)) l (all_of _ l (λ _ _. tt));
   }
     where
       n : ℕ
       n = c.counter
 
-      None : (v : Version) → is_sent (wait_again v).state ≡ true → ⊥
-      None v h = grind arith
+      not_sent : (v : Version) → is_sent (wait_again v).state ≡ true → ⊥
+      not_sent v h = grind arith
 
   pub keep_call : (device : Device) (call : Call) (l : List Version) (c : Sorted) → Kept l c → Good l call (sorted_outcome precedes device call c)
   keep_call device (Begin place bytes) l c i = keep_begin l c place bytes i

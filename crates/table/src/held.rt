@@ -1,7 +1,7 @@
 // The versions that the table holds, and what is asked of them and done to them.
 ghost use Rattle.std.specs.Prelude.{◌≡◌};
 ghost use Rattle.table.specs.Versions.{begun};
-ghost use Rattle.table.specs.Rows.{test, changed};
+ghost use Rattle.table.specs.Rows.{stamp_of, bytes_of, test, changed};
 
 use disk::disk::BLOCK;
 use precedence::Stamp;
@@ -34,6 +34,26 @@ impl Version {
             bytes: *bytes,
             state: State::Open,
         }
+    }
+}
+
+// The stamp of the version in a row, all zero where the row is vacant.
+pub fn stamp_of(row: &Option<Version>) -> Stamp
+    ensures { result ≡ stamp_of row.now }
+{
+    match row {
+        None => Stamp::begun(0, 0),
+        Some(v) => v.stamp,
+    }
+}
+
+// The bytes of the version in a row, all zero where the row is vacant.
+pub fn bytes_of(row: &Option<Version>) -> &[u8; BLOCK]
+    ensures { result.now ≡ bytes_of row.now }
+{
+    match row {
+        None => &[0; BLOCK],
+        Some(v) => &v.bytes,
     }
 }
 

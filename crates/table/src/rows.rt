@@ -3,7 +3,7 @@ ghost use Rattle.std.specs.Prelude.{◌≡◌, ◌+◌, ◌<◌, ◌≤◌, map,
 ghost use Rattle.table.specs.Versions.{some_pass, reserved, gone_count};
 ghost use Rattle.table.specs.Rows.{in_rows, stamp_of, bytes_of, test, changed, finishes, ending, leaving, mark_sent, Vacancy};
 
-use crate::held::{Change, Query, Version};
+use crate::held::{Change, Query, Version, bytes_of, stamp_of};
 use disk::disk::BLOCK;
 use precedence::Stamp;
 
@@ -50,10 +50,7 @@ impl Table {
         requires { i < 32 }
         ensures { result ≡ stamp_of (slice_index_or self.now.rows i None) }
     {
-        match &self.rows[i] {
-            None => Stamp::begun(0, 0),
-            Some(v) => v.stamp,
-        }
+        stamp_of(&self.rows[i])
     }
 
     // The bytes of the version in row i, all zero where the row is vacant.
@@ -61,10 +58,7 @@ impl Table {
         requires { i < 32 }
         ensures { result.now ≡ bytes_of (slice_index_or self.now.rows i None) }
     {
-        match &self.rows[i] {
-            None => &[0; BLOCK],
-            Some(v) => &v.bytes,
-        }
+        bytes_of(&self.rows[i])
     }
 
     // Row i holds the version.
