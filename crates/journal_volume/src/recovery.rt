@@ -11,6 +11,15 @@ use disk::error::DiskError;
 use head::codec::decode;
 use head::head::Head;
 
+// The head that was found on a volume of so many home blocks: what recovery brings home.
+#[derive(Drop)]
+pub(crate) struct Found {
+    pub(crate) home: usize,
+    pub(crate) head: Head,
+    ghost room: { home ≤ 4087 },
+    ghost fit: { fitting home (head_of head) ≡ true },
+}
+
 // Flushes, and reads the head.
 pub(crate) fn take_head<D: Disk>(disk: &mut D, home: usize) -> Result<Option<Head>, DiskError>
     requires { size (D.medium disk.old) ≡ home + 9 }
@@ -22,59 +31,50 @@ pub(crate) fn take_head<D: Disk>(disk: &mut D, home: usize) -> Result<Option<Hea
     Ok(decode(home, &block))
 }
 
-// Reads a slot and writes it to its home place.
-pub(crate) fn copy_slot<D: Disk>(
-    disk: &mut D,
-    home: usize,
-    head: &Head,
-    i: usize,
-) -> Result<(), DiskError>
-    requires sized { size (D.medium disk.old) ≡ home + 9 }
-    requires room { home ≤ 4087 }
-    requires fit { fitting home (head_of head.now) ≡ true }
-    requires in_turn { i < length (head_of head.now).places }
-    ensures { Goes (OfRule D.rule) D.attempts home (at (read_slot i (head_of head.now)) (D.medium disk.old)) (turn (i + 1) (head_of head.now)) result (D.medium disk.new) }
-{
-    let mut block = [0u8; BLOCK];
-    disk.read(home + 1 + i, &mut block)?;
-    disk.write(head.place(i), &block)
-}
-
-// Copies every slot home, in turn.
-pub(crate) fn copy_slots<D: Disk>(disk: &mut D, home: usize, head: &Head) -> Result<(), DiskError>
-    requires sized { size (D.medium disk.old) ≡ home + 9 }
-    requires room { home ≤ 4087 }
-    requires fit { fitting home (head_of head.now) ≡ true }
-    ensures { Goes (OfRule D.rule) D.attempts home (at (turn 0 (head_of head.now)) (D.medium disk.old)) (home_flush (head_of head.now)) result (D.medium disk.new) }
-{
-    // An index: the slot with this number is read.
-    for i in 0..head.len() {
-        copy_slot(disk, home, head, i)?;
+impl Found {
+    // Reads a slot and writes it to its home place.
+    fn copy_slot<D: Disk>(&self, disk: &mut D, i: usize) -> Result<(), DiskError>
+        requires sized { size (D.medium disk.old) ≡ self.now.home + 9 }
+        requires in_turn { i < length (head_of self.now.head).places }
+        ensures { Goes (OfRule D.rule) D.attempts self.now.home (at (read_slot i (head_of self.now.head)) (D.medium disk.old)) (turn (i + 1) (head_of self.now.head)) result (D.medium disk.new) }
+    {
+        let mut block = [0u8; BLOCK];
+        disk.read(self.home + 1 + i, &mut block)?;
+        disk.write(self.head.place(i), &block)
     }
-    Ok(())
-}
 
-// Flushes, writes the empty head, and flushes.
-pub(crate) fn clear<D: Disk>(disk: &mut D, home: usize, head: &Head) -> Result<(), DiskError>
-    requires { size (D.medium disk.old) ≡ home + 9 }
-    ensures { Goes (OfRule D.rule) D.attempts home (at (home_flush (head_of head.now)) (D.medium disk.old)) (recovered head.now.number) result (D.medium disk.new) }
-{
-    let empty = Head::empty(head.number).encode();
-    disk.flush()?;
-    disk.write(home, &empty)?;
-    disk.flush()
-}
-
-// Brings a group home, if the head names one.
-pub(crate) fn restore<D: Disk>(disk: &mut D, home: usize, head: &Head) -> Result<(), DiskError>
-    requires sized { size (D.medium disk.old) ≡ home + 9 }
-    requires room { home ≤ 4087 }
-    requires fit { fitting home (head_of head.now) ≡ true }
-    ensures { Goes (OfRule D.rule) D.attempts home (at (seen_stage (head_of head.now)) (D.medium disk.old)) (recovered head.now.number) result (D.medium disk.new) }
-{
-    if head.len() == 0 {
-        return Ok(());
+    // Copies every slot home, in turn.
+    fn copy_slots<D: Disk>(&self, disk: &mut D) -> Result<(), DiskError>
+        requires { size (D.medium disk.old) ≡ self.now.home + 9 }
+        ensures { Goes (OfRule D.rule) D.attempts self.now.home (at (turn 0 (head_of self.now.head)) (D.medium disk.old)) (home_flush (head_of self.now.head)) result (D.medium disk.new) }
+    {
+        // An index: the slot with this number is read.
+        for i in 0..self.head.len() {
+            self.copy_slot(disk, i)?;
+        }
+        Ok(())
     }
-    copy_slots(disk, home, head)?;
-    clear(disk, home, head)
+
+    // Flushes, writes the empty head, and flushes.
+    fn clear<D: Disk>(&self, disk: &mut D) -> Result<(), DiskError>
+        requires { size (D.medium disk.old) ≡ self.now.home + 9 }
+        ensures { Goes (OfRule D.rule) D.attempts self.now.home (at (home_flush (head_of self.now.head)) (D.medium disk.old)) (recovered self.now.head.number) result (D.medium disk.new) }
+    {
+        let empty = Head::empty(self.head.number).encode();
+        disk.flush()?;
+        disk.write(self.home, &empty)?;
+        disk.flush()
+    }
+
+    // Brings a group home, if the head names one.
+    pub(crate) fn restore<D: Disk>(&self, disk: &mut D) -> Result<(), DiskError>
+        requires { size (D.medium disk.old) ≡ self.now.home + 9 }
+        ensures { Goes (OfRule D.rule) D.attempts self.now.home (at (seen_stage (head_of self.now.head)) (D.medium disk.old)) (recovered self.now.head.number) result (D.medium disk.new) }
+    {
+        if self.head.len() == 0 {
+            return Ok(());
+        }
+        self.copy_slots(disk)?;
+        self.clear(disk)
+    }
 }

@@ -46,10 +46,13 @@ restore-requires g c =
     let mid = g.D.Disk.medium c.take_head.new.disk in
     let s = c.size-size.result in
     let n = s - 9 in
-    let few : s ≤ 4096 = search rules in
+    leads_size (OfRule rule) n (started m) (at (head_seen (found c.in_ok-head.field-0)) mid) c.in_ok-head.ensures.0
+    ∙ (let q : size m ≡ n + 9 = omega (arith, c.size-size.ensures) in q)
+
+pub invariant_of-found : goal.invariant_of-found
+invariant_of-found g c =
+    let few : c.size-size.result ≤ 4096 = search rules in
     record {
-      sized = leads_size (OfRule rule) n (started m) (at (head_seen (found c.in_ok-head.field-0)) mid) c.in_ok-head.ensures.0
-          ∙ (let q : size m ≡ n + 9 = omega (arith, c.size-size.ensures) in q);
       room = omega (arith, few);
       fit = c.in_ok-head.ensures.1 (head_of c.in-Some.head) (ap found c.in-Some.is);
     }

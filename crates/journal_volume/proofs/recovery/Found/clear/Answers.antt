@@ -7,14 +7,14 @@ use Rattle.head.proofs.Bytes.{length_encode}
 use Rattle.journal_law.specs.Recovery.{home_flush, write_empty, last_flush, recovered}
 use Rattle.journal_volume.specs.Recovering.{at, OfRule, Leads}
 use Rattle.journal_volume.proofs.Going.{goes_on, leads_size, handed_up, home_flush_goes, write_empty_goes, last_flush_goes}
-use Rattle.journal_volume.proofs.recovery.clear.Goals as goal
+use Rattle.journal_volume.proofs.recovery.Found.clear.Goals as goal
 
 pub returns-in_err-flush : goal.returns-in_err-flush
 returns-in_err-flush g c =
     let rule = g.D.Disk.rule in
     let tries = g.D.Disk.attempts in
-    let n = c.args.home in
-    let h = head_of c.args.head.now in
+    let n = c.args.self.now.home in
+    let h = head_of c.args.self.now.head in
     let disk = c.args.disk.now in
     let m = g.D.Disk.medium disk in
     let last = g.D.Disk.medium c.flush.new.self in
@@ -29,8 +29,8 @@ pub returns-in_err-write : goal.returns-in_err-write
 returns-in_err-write g c =
     let rule = g.D.Disk.rule in
     let tries = g.D.Disk.attempts in
-    let n = c.args.home in
-    let h = head_of c.args.head.now in
+    let n = c.args.self.now.home in
+    let h = head_of c.args.self.now.head in
     let disk = c.args.disk.now in
     let m = g.D.Disk.medium disk in
     let mid-disk = c.flush.new.self in
@@ -53,8 +53,8 @@ pub returns : goal.returns
 returns g c =
     let rule = g.D.Disk.rule in
     let tries = g.D.Disk.attempts in
-    let n = c.args.home in
-    let h = head_of c.args.head.now in
+    let n = c.args.self.now.home in
+    let h = head_of c.args.self.now.head in
     let disk = c.args.disk.now in
     let m = g.D.Disk.medium disk in
     let mid-disk = c.flush.new.self in

@@ -4,7 +4,7 @@ use Rattle.journal_law.specs.Recovery.{home_flush}
 use Rattle.head.specs.Codes.{head_of}
 use Rattle.journal_volume.specs.Recovering.{at, OfRule, turn, Leads, Goes}
 use Rattle.journal_volume.proofs.Going.{goes_on, leads_on, leads_size, handed_up, turn_on, turn_end}
-use Rattle.journal_volume.proofs.recovery.copy_slots.Goals as goal
+use Rattle.journal_volume.proofs.recovery.Found.copy_slots.Goals as goal
 
 pub loop-i-init : goal.loop-i-init
 loop-i-init g c = record { effects = []; by_rule = tt; run = refl }
@@ -12,23 +12,21 @@ loop-i-init g c = record { effects = []; by_rule = tt; run = refl }
 pub copy_slot-requires : goal.copy_slot-requires
 copy_slot-requires g c =
     let rule = g.D.Disk.rule in
-    let n = c.args.home in
-    let h = head_of c.args.head.now in
+    let n = c.args.self.now.home in
+    let h = head_of c.args.self.now.head in
     let m = g.D.Disk.medium c.args.disk.now in
     let mid = g.D.Disk.medium c.loop-i.disk in
     record {
-      sized = leads_size (OfRule rule) n (at (turn 0 h) m) (at (turn c.loop-i.i h) mid) c.loop-i.invariant ∙ c.requires.sized;
-      room = c.requires.room;
-      fit = c.requires.fit;
+      sized = leads_size (OfRule rule) n (at (turn 0 h) m) (at (turn c.loop-i.i h) mid) c.loop-i.invariant ∙ c.requires;
       in_turn = omega (arith, c.loop-i-test.true, c.len-i-end.ensures);
     }
 
 pub loop-i-preserved : goal.loop-i-preserved
 loop-i-preserved g c =
     let rule = g.D.Disk.rule in
-    let n = c.args.home in
+    let n = c.args.self.now.home in
     let i = c.loop-i.i in
-    let h = head_of c.args.head.now in
+    let h = head_of c.args.self.now.head in
     let m = g.D.Disk.medium c.args.disk.now in
     let mid = g.D.Disk.medium c.loop-i.disk in
     let last = g.D.Disk.medium c.copy_slot.new.disk in
@@ -40,9 +38,9 @@ pub returns-in_err-copy_slot : goal.returns-in_err-copy_slot
 returns-in_err-copy_slot g c =
     let rule = g.D.Disk.rule in
     let tries = g.D.Disk.attempts in
-    let n = c.args.home in
+    let n = c.args.self.now.home in
     let i = c.loop-i.i in
-    let h = head_of c.args.head.now in
+    let h = head_of c.args.self.now.head in
     let m = g.D.Disk.medium c.args.disk.now in
     let mid = g.D.Disk.medium c.loop-i.disk in
     let last = g.D.Disk.medium c.copy_slot.new.disk in
@@ -56,9 +54,9 @@ returns-in_err-copy_slot g c =
 pub returns : goal.returns
 returns g c =
     let rule = g.D.Disk.rule in
-    let n = c.args.home in
+    let n = c.args.self.now.home in
     let i = c.loop-i.i in
-    let h = head_of c.args.head.now in
+    let h = head_of c.args.self.now.head in
     let m = g.D.Disk.medium c.args.disk.now in
     let mid = g.D.Disk.medium c.loop-i.disk in
     let all : length h.places ≤ i = omega (arith, c.loop-i-test.false, c.len-i-end.ensures) in
