@@ -188,3 +188,23 @@ seen_some h l = ap (λ t. cond t (recovered h.number) (read_slot 0 h)) (ne_eqb (
 -- a place of a head that fits lies below the head
 pub place_below : (n : ℕ) (h : Head) (i : ℕ) → fits n h ≡ true → i < length h.places → get_or h.places i 0 < n
 place_below n h i f l = inside_all n h.places i (fits_parts n h f).below l
+
+-- from x the recovery has come to slot i, and reads it
+pub slot_goes : (By : Effect → Type 0) → (e : Effect) × By e → (tries n : ℕ) (x : Recovery) (h : Head) (i : ℕ) (m : Medium) (r : Answer) (m' : Medium) (b c : Block) →
+    Leads By n x (at (turn i h) m) → size x.medium ≡ n + 9 → i < length h.places → length h.places ≤ 8 → length b ≡ 512 → Reads tries m (n + 1 + i) b r m' c →
+    Goes By tries n x (write_home i h c) r m'
+slot_goes By any tries n x h i m r m' b c l sized more few whole d =
+    let slot : n + 1 + i ≡ slot_place n i = omega arith in
+    let inside : n + 1 + i < size m = omega (arith, leads_size By n x (at (turn i h) m) l, sized, more, few) in
+    goes_on By n x (at (turn i h) m) l tries (write_home i h c) r m'
+    (subst (λ s. Goes By tries n (at s m) (write_home i h c) r m') (sym (turn_on i h more))
+    (read_slot_goes By any tries n m r m' h i (n + 1 + i) b c slot whole inside d))
+
+-- from x the recovery has read slot i, and writes its bytes home
+pub place_goes : (By : Effect → Type 0) (effect : Effect) → By effect → (tries n : ℕ) (x : Recovery) (h : Head) (i place : ℕ) (m : Medium) (r : Answer) (m' : Medium) (b : Block) →
+    Leads By n x (at (write_home i h b) m) → size x.medium ≡ n + 9 → fits n h ≡ true → i < length h.places → place ≡ get_or h.places i 0 → length b ≡ 512 → WritesBy effect tries m place b r m' →
+    Goes By tries n x (turn (i + 1) h) r m'
+place_goes By effect by tries n x h i place m r m' b l sized fit more p whole d =
+    let inside : place < size m = omega (arith, p, place_below n h i fit more, leads_size By n x (at (write_home i h b) m) l, sized) in
+    goes_on By n x (at (write_home i h b) m) l tries (turn (i + 1) h) r m'
+    (write_home_goes By effect by tries n m r m' h i place b p whole inside d)

@@ -1,9 +1,9 @@
 // The disk calls of recovery, part by part. Each part goes on from where the recovery stands, or ends it by a fault.
-ghost use Rattle.std.specs.Prelude.{◌≡◌, ◌+◌, ◌<◌, ◌≤◌, true, length};
+ghost use Rattle.std.specs.Prelude.{◌≡◌, ◌+◌, ◌≤◌, true};
 ghost use Rattle.disk.specs.Medium.{size};
 ghost use Rattle.head.specs.Head.{fits as fitting};
 ghost use Rattle.head.specs.Codes.{head_of};
-ghost use Rattle.journal_law.specs.Recovery.{read_slot, home_flush, recovered};
+ghost use Rattle.journal_law.specs.Recovery.{home_flush, recovered};
 ghost use Rattle.journal_volume.specs.Recovering.{at, turn, OfRule, Goes, Sees, seen_stage};
 
 use disk::disk::{BLOCK, Disk};
@@ -32,25 +32,15 @@ pub(crate) fn take_head<D: Disk>(disk: &mut D, home: usize) -> Result<Option<Hea
 }
 
 impl Found {
-    // Reads a slot and writes it to its home place.
-    fn copy_slot<D: Disk>(&self, disk: &mut D, i: usize) -> Result<(), DiskError>
-        requires sized { size (D.medium disk.old) ≡ self.now.home + 9 }
-        requires in_turn { i < length (head_of self.now.head).places }
-        ensures { Goes (OfRule D.rule) D.attempts self.now.home (at (read_slot i (head_of self.now.head)) (D.medium disk.old)) (turn (i + 1) (head_of self.now.head)) result (D.medium disk.new) }
-    {
-        let mut block = [0u8; BLOCK];
-        disk.read(self.home + 1 + i, &mut block)?;
-        disk.write(self.head.place(i), &block)
-    }
-
-    // Copies every slot home, in turn.
+    // Reads every slot, in turn, and writes it to its home place.
     fn copy_slots<D: Disk>(&self, disk: &mut D) -> Result<(), DiskError>
         requires { size (D.medium disk.old) ≡ self.now.home + 9 }
         ensures { Goes (OfRule D.rule) D.attempts self.now.home (at (turn 0 (head_of self.now.head)) (D.medium disk.old)) (home_flush (head_of self.now.head)) result (D.medium disk.new) }
     {
-        // An index: the slot with this number is read.
-        for i in 0..self.head.len() {
-            self.copy_slot(disk, i)?;
+        for (i, place) in self.head.places().iter().enumerate() {
+            let mut block = [0u8; BLOCK];
+            disk.read(self.home + 1 + i, &mut block)?;
+            disk.write(*place, &block)?;
         }
         Ok(())
     }
