@@ -1,6 +1,6 @@
 -- From what the disk promises of a call to where a recovery then stands.
 use Rattle.std.proofs.Common.{◌≡◌, ℕ, ◌+◌, ◌<◌, ◌≤◌, true, cond, List, [], ◌∷◌, ◌++◌, length, get_or, Ok, Err, Result, sym, refl, ap, ◌∙◌, subst, add-one, arith}
-use Rattle.std.proofs.lemmas.Bool.{eq-eqb, ne_eqb, lt-ltb, le-ltb}
+use Rattle.std.proofs.lemmas.Bool.{eq-eqb, ne_eqb, lt-ltb}
 use Rattle.std.proofs.ByRecursion.{All-append}
 use Rattle.disk.specs.declared.error.Kind.{Kind}
 use Rattle.disk.specs.declared.error.Kind.TheVariants as kind
@@ -141,7 +141,7 @@ module _ (By : Effect → Type 0) where
     read_head_goes b c e l d = one_goes tries n read_head m any.0 any.1 (head_seen (decode n c)) (passed m) kind.Read n r m'
         (λ g. ap (λ x. at (head_seen (decode n x)) (passed m)) (sym (read_shows tries m r m' n b c e l d g))) refl (read_came tries m r m' n b c e l d)
 
-    pub read_slot_goes : (h : Head) (i place : ℕ) (b c : Block) → place ≡ slot_place n i → length b ≡ 512 → place < size m → Reads tries m place b r m' c →
+    read_slot_goes : (h : Head) (i place : ℕ) (b c : Block) → place ≡ slot_place n i → length b ≡ 512 → place < size m → Reads tries m place b r m' c →
         Goes By tries n (at (read_slot i h) m) (write_home i h c) r m'
     read_slot_goes h i place b c p e l d = one_goes tries n (read_slot i h) m any.0 any.1 (write_home i h c) (passed m) kind.Read (slot_place n i) r m'
         (λ g. ap (λ x. at (write_home i h x) (passed m)) (sym (read_shows tries m r m' place b c e l d g ∙ ap (λ q. get_or (current m) q []) p)))
@@ -154,7 +154,7 @@ module _ (By : Effect → Type 0) where
     last_flush_goes h d = one_goes tries n (last_flush h) m any.0 any.1 (recovered h.number) (flushed m) kind.Flush 0 r m' (λ _. refl) refl (flush_came tries m r m' d)
 
   module _ (effect : Effect) (by : By effect) (tries n : ℕ) (m : Medium) (r : Answer) (m' : Medium) where
-    pub write_home_goes : (h : Head) (i place : ℕ) (b : Block) → place ≡ get_or h.places i 0 → length b ≡ 512 → place < size m → WritesBy effect tries m place b r m' →
+    write_home_goes : (h : Head) (i place : ℕ) (b : Block) → place ≡ get_or h.places i 0 → length b ≡ 512 → place < size m → WritesBy effect tries m place b r m' →
         Goes By tries n (at (write_home i h b) m) (turn (i + 1) h) r m'
     write_home_goes h i place b p e l d =
         one_goes tries n (write_home i h b) m effect by (turn (i + 1) h) (put effect m (record { place = get_or h.places i 0; bytes = b })) kind.Write (get_or h.places i 0) r m'
@@ -172,12 +172,9 @@ module _ (By : Effect → Type 0) where
       Goes By tries n x s (Err e) m' → Goes By tries n x t r m'
   handed_up tries n x s t e r m' p k = subst (λ z. Goes By tries n x t z m') (sym (p.1 ∙ ap (λ y. Err y) p.2)) k
 
--- the turns
-pub turn_on : (i : ℕ) (h : Head) → i < length h.places → turn i h ≡ read_slot i h
+-- the turn of a slot
+turn_on : (i : ℕ) (h : Head) → i < length h.places → turn i h ≡ read_slot i h
 turn_on i h l = ap (λ t. cond t (read_slot i h) (home_flush h)) (lt-ltb i (length h.places) l)
-
-pub turn_end : (i : ℕ) (h : Head) → length h.places ≤ i → turn i h ≡ home_flush h
-turn_end i h l = ap (λ t. cond t (read_slot i h) (home_flush h)) (le-ltb i (length h.places) l)
 
 pub seen_none : (h : Head) → length h.places ≡ 0 → seen_stage h ≡ recovered h.number
 seen_none h e = ap (λ t. cond t (recovered h.number) (read_slot 0 h)) (eq-eqb (length h.places) 0 e)
@@ -186,7 +183,7 @@ pub seen_some : (h : Head) → 0 < length h.places → seen_stage h ≡ turn 0 h
 seen_some h l = ap (λ t. cond t (recovered h.number) (read_slot 0 h)) (ne_eqb (length h.places) 0 (λ e. absurd (omega (arith, l, e)))) ∙ sym (turn_on 0 h l)
 
 -- a place of a head that fits lies below the head
-pub place_below : (n : ℕ) (h : Head) (i : ℕ) → fits n h ≡ true → i < length h.places → get_or h.places i 0 < n
+place_below : (n : ℕ) (h : Head) (i : ℕ) → fits n h ≡ true → i < length h.places → get_or h.places i 0 < n
 place_below n h i f l = inside_all n h.places i (fits_parts n h f).below l
 
 -- from x the recovery has come to slot i, and reads it

@@ -4,7 +4,6 @@ ghost use Rattle.disk.specs.Medium.{size};
 ghost use Rattle.head.specs.Head.{fits as fitting};
 ghost use Rattle.head.specs.Codes.{head_of};
 ghost use Rattle.journal_law.specs.Recovery.{home_flush, recovered};
-ghost use Rattle.journal_volume.specs.Recovering.{at, turn, OfRule, Goes, Sees, seen_stage};
 
 use disk::disk::{BLOCK, Disk};
 use disk::error::DiskError;
@@ -14,24 +13,30 @@ use head::head::Head;
 // The head that was found on a volume of so many home blocks: what recovery brings home.
 #[derive(Drop)]
 pub(crate) struct Found {
-    pub(crate) home: usize,
+    home: usize,
     pub(crate) head: Head,
     ghost room: { home ≤ 4087 },
     ghost fit: { fitting home (head_of head) ≡ true },
 }
 
-// Flushes, and reads the head.
-pub(crate) fn take_head<D: Disk>(disk: &mut D, home: usize) -> Result<Option<Head>, DiskError>
-    requires { size (D.medium disk.old) ≡ home + 9 }
-    ensures { Sees (OfRule D.rule) D.attempts home (D.medium disk.old) result (D.medium disk.new) }
-{
-    let mut block = [0u8; BLOCK];
-    disk.flush()?;
-    disk.read(home, &mut block)?;
-    Ok(decode(home, &block))
-}
-
 impl Found {
+    ghost use Rattle.journal_volume.specs.Recovering.{at, turn, OfRule, Goes, Sees, seen_stage};
+
+    // Flushes, and reads the head.
+    pub(crate) fn read<D: Disk>(disk: &mut D, home: usize) -> Result<Option<Found>, DiskError>
+        requires sized { size (D.medium disk.old) ≡ home + 9 }
+        requires room { home ≤ 4087 }
+        ensures { Sees (OfRule D.rule) D.attempts home (D.medium disk.old) result (D.medium disk.new) }
+    {
+        let mut block = [0u8; BLOCK];
+        disk.flush()?;
+        disk.read(home, &mut block)?;
+        let Some(head) = decode(home, &block) else {
+            return Ok(None);
+        };
+        Ok(Some(Found { home, head }))
+    }
+
     // Reads every slot, in turn, and writes it to its home place.
     fn copy_slots<D: Disk>(&self, disk: &mut D) -> Result<(), DiskError>
         requires { size (D.medium disk.old) ≡ self.now.home + 9 }
