@@ -8,17 +8,10 @@ use Rattle.journal_volume.proofs.Going.{leads_on, ends_on, leads_size}
 use Rattle.journal_volume.proofs.Ending.{too_small, recovered_done, recovered_none, recovered_failed}
 use Rattle.journal_volume.proofs.cold.Cold.recover.Goals as goal
 
-pub returns-then-size-le-KEPT_BLOCKS : goal.returns-then-size-le-KEPT_BLOCKS
-returns-then-size-le-KEPT_BLOCKS g c =
-    let rule = g.D.Disk.rule in
+pub returns-then-size-le-KEPT_BLOCKS-clause-restores : goal.returns-then-size-le-KEPT_BLOCKS-clause-restores
+returns-then-size-le-KEPT_BLOCKS-clause-restores g c =
     let m = g.D.Disk.medium c.args.self.now.disk in
-    let d = too_small rule g.D.Disk.attempts m (omega (arith, c.size-size.ensures)) m refl in
-    record { small = d.small; outcome = d.outcome; fixed = d.fixed; restores = d.restores; opens = d.opens; accepted = refl }
-
-pub read-requires : goal.read-requires
-read-requires g c =
-    let few : c.size-size.result ≤ 4096 = search rules in
-    record { sized = omega (arith, c.size-size.ensures); room = omega (arith, few) }
+    (too_small g.D.Disk.rule g.D.Disk.attempts m (omega (arith, c.size-size.ensures)) m refl).restores
 
 pub returns-in_err-found : goal.returns-in_err-found
 returns-in_err-found g c =

@@ -1,19 +1,9 @@
-use Rattle.std.proofs.Common.{◌≡◌, ◌<◌, [], length, sym, refl, ◌∙◌, subst, arith}
-use Rattle.std.proofs.lemmas.Result.{err_from_is_err_and}
+use Rattle.std.proofs.Common.{◌<◌, length, sym, ◌∙◌, subst, arith}
 use Rattle.journal_law.specs.Recovery.{home_flush, recovered}
 use Rattle.head.specs.Codes.{head_of}
-use Rattle.journal_volume.specs.Recovering.{at, OfRule, turn, Leads, Goes}
-use Rattle.journal_volume.proofs.Going.{goes_on, leads_size, handed_up, seen_none, seen_some}
+use Rattle.journal_volume.specs.Recovering.{at, OfRule, turn, Goes}
+use Rattle.journal_volume.proofs.Going.{goes_on, leads_size, seen_some}
 use Rattle.journal_volume.proofs.recovery.Found.restore.Goals as goal
-
-pub returns-then-len-eq0 : goal.returns-then-len-eq0
-returns-then-len-eq0 g c =
-    let rule = g.D.Disk.rule in
-    let n = c.args.self.now.home in
-    let h = head_of c.args.self.now.head in
-    let m = g.D.Disk.medium c.args.disk.now in
-    let empty : length h.places ≡ 0 = omega (arith, c.if-len-eq0.true, c.len.ensures) in
-    subst (λ s. Leads (OfRule rule) n (at s m) (at (recovered h.number) m)) (sym (seen_none h empty)) (record { effects = []; by_rule = tt; run = refl })
 
 pub clear-requires : goal.clear-requires
 clear-requires g c =
@@ -23,20 +13,6 @@ clear-requires g c =
     let m = g.D.Disk.medium c.args.disk.now in
     let mid = g.D.Disk.medium c.copy_slots.new.disk in
     leads_size (OfRule rule) n (at (turn 0 h) m) (at (home_flush h) mid) c.in_ok-copy_slots.ensures ∙ c.requires
-
-pub returns-in_err-copy_slots : goal.returns-in_err-copy_slots
-returns-in_err-copy_slots g c =
-    let rule = g.D.Disk.rule in
-    let tries = g.D.Disk.attempts in
-    let n = c.args.self.now.home in
-    let h = head_of c.args.self.now.head in
-    let m = g.D.Disk.medium c.args.disk.now in
-    let last = g.D.Disk.medium c.copy_slots.new.disk in
-    let e = c.in_err-copy_slots.field-0.0 in
-    let some : 0 < length h.places = omega (arith, c.if-len-eq0.false, c.len.ensures) in
-    subst (λ s. Goes (OfRule rule) tries n (at s m) (recovered h.number) c.from_residual.result last) (sym (seen_some h some))
-    (handed_up (OfRule rule) tries n (at (turn 0 h) m) (home_flush h) (recovered h.number) e c.from_residual.result last
-    (err_from_is_err_and c.from_residual.result c.from_residual.ensures.1) c.in_err-copy_slots.ensures)
 
 pub returns : goal.returns
 returns g c =
