@@ -1,6 +1,6 @@
 -- From what the disk promises of a call to where a recovery then stands.
 use Rattle.std.proofs.Common.{◌≡◌, ℕ, ◌+◌, ◌<◌, ◌≤◌, true, cond, List, [], ◌∷◌, ◌++◌, length, get_or, Ok, Err, Result, sym, refl, ap, ◌∙◌, subst, add-one, arith}
-use Rattle.std.proofs.lemmas.Bool.{eq-eqb, ne_eqb, lt-ltb, le-ltb}
+use Rattle.std.proofs.lemmas.Bool.{ne_eqb, lt-ltb}
 use Rattle.std.proofs.ByRecursion.{All-append}
 use Rattle.disk.specs.declared.error.Kind.{Kind}
 use Rattle.disk.specs.declared.error.Kind.TheVariants as kind
@@ -10,6 +10,7 @@ use Rattle.disk.specs.Calls.{Answer, Fate, answer, leaves, fate, planned, shows,
 use Rattle.errors.specs.declared.VolumeError.{VolumeError}
 use Rattle.errors.specs.declared.VolumeError.TheVariants as volume
 use Rattle.head.specs.Head.{Head, encode, decode, empty_head, fits}
+use Rattle.head.proofs.Bytes.{length_encode}
 use Rattle.journal_law.specs.Recovery.{by_entry, Stage, first_flush, read_head, read_slot, write_home, home_flush, write_empty, last_flush, recovered, no_head, failed, Recovery, started, slot_place, head_write, head_seen, good_call, bad_call, one_call, calls, fault, ended}
 use Rattle.journal_law.proofs.Media.{length_lay, length_wrote}
 use Rattle.journal_law.proofs.Start.{inside_all, fits_parts}
@@ -136,12 +137,12 @@ module _ (By : Effect → Type 0) where
     pub first_flush_goes : Flushes tries m r m' → Goes By tries n (started m) read_head r m'
     first_flush_goes d = one_goes tries n first_flush m any.0 any.1 read_head (flushed m) kind.Flush 0 r m' (λ _. refl) refl (flush_came tries m r m' d)
 
-    pub read_head_goes : (b c : Block) → length b ≡ 512 → n < size m → Reads tries m n b r m' c →
+    read_head_goes : (b c : Block) → length b ≡ 512 → n < size m → Reads tries m n b r m' c →
         Goes By tries n (at read_head m) (head_seen (decode n c)) r m'
     read_head_goes b c e l d = one_goes tries n read_head m any.0 any.1 (head_seen (decode n c)) (passed m) kind.Read n r m'
         (λ g. ap (λ x. at (head_seen (decode n x)) (passed m)) (sym (read_shows tries m r m' n b c e l d g))) refl (read_came tries m r m' n b c e l d)
 
-    pub read_slot_goes : (h : Head) (i place : ℕ) (b c : Block) → place ≡ slot_place n i → length b ≡ 512 → place < size m → Reads tries m place b r m' c →
+    read_slot_goes : (h : Head) (i place : ℕ) (b c : Block) → place ≡ slot_place n i → length b ≡ 512 → place < size m → Reads tries m place b r m' c →
         Goes By tries n (at (read_slot i h) m) (write_home i h c) r m'
     read_slot_goes h i place b c p e l d = one_goes tries n (read_slot i h) m any.0 any.1 (write_home i h c) (passed m) kind.Read (slot_place n i) r m'
         (λ g. ap (λ x. at (write_home i h x) (passed m)) (sym (read_shows tries m r m' place b c e l d g ∙ ap (λ q. get_or (current m) q []) p)))
@@ -154,14 +155,14 @@ module _ (By : Effect → Type 0) where
     last_flush_goes h d = one_goes tries n (last_flush h) m any.0 any.1 (recovered h.number) (flushed m) kind.Flush 0 r m' (λ _. refl) refl (flush_came tries m r m' d)
 
   module _ (effect : Effect) (by : By effect) (tries n : ℕ) (m : Medium) (r : Answer) (m' : Medium) where
-    pub write_home_goes : (h : Head) (i place : ℕ) (b : Block) → place ≡ get_or h.places i 0 → length b ≡ 512 → place < size m → WritesBy effect tries m place b r m' →
+    write_home_goes : (h : Head) (i place : ℕ) (b : Block) → place ≡ get_or h.places i 0 → length b ≡ 512 → place < size m → WritesBy effect tries m place b r m' →
         Goes By tries n (at (write_home i h b) m) (turn (i + 1) h) r m'
     write_home_goes h i place b p e l d =
         one_goes tries n (write_home i h b) m effect by (turn (i + 1) h) (put effect m (record { place = get_or h.places i 0; bytes = b })) kind.Write (get_or h.places i 0) r m'
         (λ g. ap (λ k. at (turn k h) (put effect m (record { place = get_or h.places i 0; bytes = b }))) (sym (add-one i))) refl
         (subst (λ q. Came tries kind.Write q m (put effect m (record { place = q; bytes = b })) r m') p (write_came tries m r m' effect place b e l d))
 
-    pub write_empty_goes : (h : Head) (b : Block) → b ≡ encode (empty_head h.number) → length b ≡ 512 → n < size m → WritesBy effect tries m n b r m' →
+    write_empty_goes : (h : Head) (b : Block) → b ≡ encode (empty_head h.number) → length b ≡ 512 → n < size m → WritesBy effect tries m n b r m' →
         Goes By tries n (at (write_empty h) m) (last_flush h) r m'
     write_empty_goes h b q e l d =
         one_goes tries n (write_empty h) m effect by (last_flush h) (put effect m (head_write n (empty_head h.number))) kind.Write n r m' (λ _. refl) refl
@@ -172,19 +173,54 @@ module _ (By : Effect → Type 0) where
       Goes By tries n x s (Err e) m' → Goes By tries n x t r m'
   handed_up tries n x s t e r m' p k = subst (λ z. Goes By tries n x t z m') (sym (p.1 ∙ ap (λ y. Err y) p.2)) k
 
--- the turns
-pub turn_on : (i : ℕ) (h : Head) → i < length h.places → turn i h ≡ read_slot i h
+-- the turn of a slot
+turn_on : (i : ℕ) (h : Head) → i < length h.places → turn i h ≡ read_slot i h
 turn_on i h l = ap (λ t. cond t (read_slot i h) (home_flush h)) (lt-ltb i (length h.places) l)
-
-pub turn_end : (i : ℕ) (h : Head) → length h.places ≤ i → turn i h ≡ home_flush h
-turn_end i h l = ap (λ t. cond t (read_slot i h) (home_flush h)) (le-ltb i (length h.places) l)
-
-pub seen_none : (h : Head) → length h.places ≡ 0 → seen_stage h ≡ recovered h.number
-seen_none h e = ap (λ t. cond t (recovered h.number) (read_slot 0 h)) (eq-eqb (length h.places) 0 e)
 
 pub seen_some : (h : Head) → 0 < length h.places → seen_stage h ≡ turn 0 h
 seen_some h l = ap (λ t. cond t (recovered h.number) (read_slot 0 h)) (ne_eqb (length h.places) 0 (λ e. absurd (omega (arith, l, e)))) ∙ sym (turn_on 0 h l)
 
 -- a place of a head that fits lies below the head
-pub place_below : (n : ℕ) (h : Head) (i : ℕ) → fits n h ≡ true → i < length h.places → get_or h.places i 0 < n
+place_below : (n : ℕ) (h : Head) (i : ℕ) → fits n h ≡ true → i < length h.places → get_or h.places i 0 < n
 place_below n h i f l = inside_all n h.places i (fits_parts n h f).below l
+
+-- from x the recovery has come to slot i, and reads it
+pub slot_goes : (By : Effect → Type 0) → (e : Effect) × By e → (tries n : ℕ) (x : Recovery) (h : Head) (i : ℕ) (m : Medium) (r : Answer) (m' : Medium) (b c : Block) →
+    Leads By n x (at (turn i h) m) → size x.medium ≡ n + 9 → i < length h.places → length h.places ≤ 8 → length b ≡ 512 → Reads tries m (n + 1 + i) b r m' c →
+    Goes By tries n x (write_home i h c) r m'
+slot_goes By any tries n x h i m r m' b c l sized more few whole d =
+    let slot : n + 1 + i ≡ slot_place n i = omega arith in
+    let inside : n + 1 + i < size m = omega (arith, leads_size By n x (at (turn i h) m) l, sized, more, few) in
+    goes_on By n x (at (turn i h) m) l tries (write_home i h c) r m'
+    (subst (λ s. Goes By tries n (at s m) (write_home i h c) r m') (sym (turn_on i h more))
+    (read_slot_goes By any tries n m r m' h i (n + 1 + i) b c slot whole inside d))
+
+-- from x the recovery has read slot i, and writes its bytes home
+pub place_goes : (By : Effect → Type 0) (effect : Effect) → By effect → (tries n : ℕ) (x : Recovery) (h : Head) (i place : ℕ) (m : Medium) (r : Answer) (m' : Medium) (b : Block) →
+    Leads By n x (at (write_home i h b) m) → size x.medium ≡ n + 9 → fits n h ≡ true → i < length h.places → place ≡ get_or h.places i 0 → length b ≡ 512 → WritesBy effect tries m place b r m' →
+    Goes By tries n x (turn (i + 1) h) r m'
+place_goes By effect by tries n x h i place m r m' b l sized fit more p whole d =
+    let inside : place < size m = omega (arith, p, place_below n h i fit more, leads_size By n x (at (write_home i h b) m) l, sized) in
+    goes_on By n x (at (write_home i h b) m) l tries (turn (i + 1) h) r m'
+    (write_home_goes By effect by tries n m r m' h i place b p whole inside d)
+
+-- a recovery that began with a flush reads the head
+pub head_goes : (By : Effect → Type 0) → (e : Effect) × By e → (tries n : ℕ) (m mid : Medium) (r : Answer) (m' : Medium) (b c : Block) →
+    size m ≡ n + 9 → Flushes tries m (Ok tt) mid → length b ≡ 512 → Reads tries mid n b r m' c →
+    Goes By tries n (started m) (head_seen (decode n c)) r m'
+head_goes By any tries n m mid r m' b c sized f whole d =
+    let first : Leads By n (started m) (at read_head mid) = first_flush_goes By any tries n m (Ok tt) mid f in
+    let inside : n < size mid = omega (arith, leads_size By n (started m) (at read_head mid) first, sized) in
+    goes_on By n (started m) (at read_head mid) first tries (head_seen (decode n c)) r m'
+    (read_head_goes By any tries n mid r m' b c whole inside d)
+
+-- after the flush that follows the slots, the empty head is written
+pub empty_goes : (By : Effect → Type 0) → (e : Effect) × By e → (effect : Effect) → By effect → (tries n : ℕ) (h : Head) (m mid : Medium) (r : Answer) (m' : Medium) (b : Block) →
+    size m ≡ n + 9 → Flushes tries m (Ok tt) mid → b ≡ encode (empty_head h.number) → WritesBy effect tries mid n b r m' →
+    Goes By tries n (at (home_flush h) m) (last_flush h) r m'
+empty_goes By any effect by tries n h m mid r m' b sized f bytes d =
+    let first : Leads By n (at (home_flush h) m) (at (write_empty h) mid) = home_flush_goes By any tries n m (Ok tt) mid h f in
+    let inside : n < size mid = omega (arith, leads_size By n (at (home_flush h) m) (at (write_empty h) mid) first, sized) in
+    let whole : length b ≡ 512 = ap length bytes ∙ length_encode (empty_head h.number) (omega arith) in
+    goes_on By n (at (home_flush h) m) (at (write_empty h) mid) first tries (last_flush h) r m'
+    (write_empty_goes By effect by tries n mid r m' h b bytes whole inside d)

@@ -1,15 +1,15 @@
 -- A recovery in code, against the recovery that makes one disk call at a time.
-use Rattle.std.specs.Prelude.{◌≡◌, ℕ, true, cond, List, length, replicate, Some, None, Ok, Err, Option, Result, nat_lt}
+use Rattle.std.specs.Prelude.{◌≡◌, ℕ, cond, List, length, replicate, Some, None, Ok, Err, Option, Result, nat_lt}
 use Rattle.std.proofs.Math.Option.{some}
 use Rattle.std.specs.List.{AllByRecursion}
 use Rattle.disk.specs.declared.error.DiskError.{DiskError}
 use Rattle.disk.specs.Medium.{Write, Effect, Medium}
 use Rattle.errors.specs.declared.VolumeError.{VolumeError}
 use Rattle.errors.specs.declared.VolumeError.TheVariants as volume
-use Rattle.head.specs.Head.{Head, fits}
-use Rattle.head.specs.declared.head.Head.{Head as CodeHead}
-use Rattle.head.specs.Codes.{found}
-use Rattle.journal_law.specs.Recovery.{home_blocks, Stage, read_slot, home_flush, Recovery, started, head_seen, calls, ended}
+use Rattle.head.specs.Head.{Head}
+use Rattle.head.specs.Codes.{head_of}
+use Rattle.journal_law.specs.Recovery.{home_blocks, Stage, read_slot, home_flush, Recovery, started, head_seen, no_head, calls, ended}
+use Rattle.journal_volume.specs.declared.recovery.Found.{Found}
 
 abbrev pub at : Stage → Medium → Recovery
 at s m = record { stage = s; medium = m }
@@ -36,13 +36,14 @@ abbrev pub Goes : (Effect → Type 0) → ℕ → ℕ → Recovery → Stage →
 Goes By tries n x s (Ok u) m' = Leads By n x (at s m')
 Goes By tries n x s (Err e) m' = Ends By tries n x (Err (volume.Disk e)) m'
 
--- the part up to the head
-abbrev pub Sees : (Effect → Type 0) → ℕ → ℕ → Medium → Result (Option CodeHead) DiskError → Medium → Type 0
-Sees By tries n m (Ok o) m' = Leads By n (started m) (at (head_seen (found o)) m') × ((h : Head) → found o ≡ some h → fits n h ≡ true)
-Sees By tries n m (Err e) m' = Ends By tries n (started m) (Err (volume.Disk e)) m'
-
 abbrev pub seen_stage : Head → Stage
 seen_stage h = head_seen (some h)
+
+-- the part up to the head: where a block holds one that fits, it is found on the volume of n home blocks
+abbrev pub Sees : (Effect → Type 0) → ℕ → ℕ → Medium → Result (Option Found) DiskError → Medium → Type 0
+Sees By tries n m (Ok None) m' = Leads By n (started m) (at no_head m')
+Sees By tries n m (Ok (Some x)) m' = Leads By n (started m) (at (seen_stage (head_of x.head)) m') × (x.home ≡ n)
+Sees By tries n m (Err e) m' = Ends By tries n (started m) (Err (volume.Disk e)) m'
 
 -- slot i, or past the last the flush
 abbrev pub turn : ℕ → Head → Stage

@@ -5,7 +5,7 @@ ghost use Rattle.journal_law.specs.Recovery.{started, home_blocks, head_write, f
 ghost use Rattle.journal_volume.specs.Recovering.{OfRule, Ends, IsTooSmall, RecoveredAs, accepted_by, not_accepted, with_number};
 ghost use Rattle.journal_volume.specs.Restoring.{Restores, Opens};
 
-use crate::recovery::{restore, take_head};
+use crate::recovery::Found;
 use disk::disk::BenchDisk;
 use errors::VolumeError;
 use head::head::Head;
@@ -88,12 +88,11 @@ impl<D: BenchDisk> Cold<D> {
         if size <= KEPT_BLOCKS {
             return Err(VolumeError::TooSmall);
         }
-        let home = size - KEPT_BLOCKS;
-        let Some(head) = take_head(&mut self.disk, home)? else {
+        let Some(found) = Found::read(&mut self.disk, size - KEPT_BLOCKS)? else {
             return Err(VolumeError::NoHead);
         };
-        restore(&mut self.disk, home, &head)?;
-        self.accepted = Some(head.number);
-        Ok(head.number)
+        found.restore(&mut self.disk)?;
+        self.accepted = Some(found.head.number);
+        Ok(found.head.number)
     }
 }
