@@ -1,5 +1,5 @@
 -- The first row that passes, and what it says of the lists of the model.
-use Rattle.std.proofs.Common.{◌≡◌, ℕ, suc, ◌+◌, Bool, true, false, cond, not, eqb, List, [], ◌∷◌, ◌++◌, map, length, get_or, drop, set, is_some, Some, None, Option, sym, refl, ap, ◌∙◌, subst, arith}
+use Rattle.std.proofs.Common.{◌≡◌, ℕ, suc, ◌+◌, Bool, true, false, cond, not, eqb, List, [], ◌∷◌, ◌++◌, map, length, get_or, drop, set, is_some, Some, None, sym, refl, ap, ◌∙◌, subst, arith}
 use mathlib.Core.Option.{some, none}
 use Rattle.std.specs.List.{AllByRecursion, position, position_from, remove, count_by}
 use Rattle.std.proofs.lemmas.Iterator.Adapters.{position_from-zero}
@@ -23,18 +23,14 @@ pub record Row (p : Entry → Bool) (xs : List Entry) (i : ℕ) : Type 0 where
   pub passes : p here ≡ true
   pub before : AllByRecursion (λ x. p x ≡ false) pre
 
-abbrev index : Option ℕ → ℕ
-index None = 0
-index (Some i) = suc i
-
 first_row : (k : ℕ) (p : Entry → Bool) (xs : List Entry) (j : ℕ) → position_from p k xs ≡ Some j → (i : ℕ) × (k + i ≡ j) × Row p xs i
-first_row k p [] j e = absurd (let f : 0 ≡ suc j = ap index e in omega (arith, f))
+first_row k p [] j e = absurd cc
 first_row k p (x ∷ xs) j e = go (p x) refl e (first_row (k + 1) p xs j)
   where
     go : (b : Bool) → p x ≡ b → cond b (Some k) (position_from p (k + 1) xs) ≡ Some j →
         (position_from p (k + 1) xs ≡ Some j → (i : ℕ) × (k + 1 + i ≡ j) × Row p xs i) → (i : ℕ) × (k + i ≡ j) × Row p (x ∷ xs) i
     go true q f rec =
-        (0, (let g : suc k ≡ suc j = ap index f in omega (arith, g)), record { pre = []; here = x; post = xs; is = refl; at = refl; passes = q; before = tt })
+        (0, (let g : k ≡ j = cc in omega arith), record { pre = []; here = x; post = xs; is = refl; at = refl; passes = q; before = tt })
     go false q f rec =
         let r = rec f in (
           suc r.0,
@@ -55,7 +51,7 @@ first_none k p [] e = tt
 first_none k p (x ∷ xs) e = go (p x) refl e (first_none (k + 1) p xs)
   where
     go : (b : Bool) → p x ≡ b → cond b (Some k) (position_from p (k + 1) xs) ≡ None → (position_from p (k + 1) xs ≡ None → AllByRecursion (λ y. p y ≡ false) xs) → AllByRecursion (λ y. p y ≡ false) (x ∷ xs)
-    go true q f rec = absurd (let g : suc k ≡ 0 = ap index f in omega (arith, g))
+    go true q f rec = absurd cc
     go false q f rec = (q, rec f)
 
 pub found_row : (p : Entry → Bool) (xs : List Entry) (i : ℕ) → position p xs ≡ Some i → Row p xs i

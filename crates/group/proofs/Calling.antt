@@ -1,5 +1,6 @@
 -- The disk call of a phase, from what the disk promised.
-use Rattle.std.proofs.Common.{◌≡◌, ℕ, zero, suc, ◌<◌, List, [], ◌∷◌, map, length, get_or, refl, ap, subst, arith}
+use Rattle.std.proofs.Common.{◌≡◌, ℕ, zero, suc, ◌<◌, List, [], ◌∷◌, map, length, get_or, refl, subst, arith}
+use Rattle.std.proofs.lemmas.Simd.{map-map}
 use Rattle.disk.specs.Medium.{Write, Effect, Medium}
 use Rattle.disk.specs.Calls.{Answer, WritesBy}
 use Rattle.journal_law.specs.Cache.{place_of, nth, write}
@@ -18,5 +19,4 @@ nth_entry (x ∷ xs) zero l = refl
 nth_entry (x ∷ xs) (suc i) l = nth_entry xs i (omega arith)
 
 pub entry_places : (xs : List Entry) → map place_of (map write_in xs) ≡ map place_in xs
-entry_places [] = refl
-entry_places (x ∷ xs) = ap (λ ps. x.place ∷ ps) (entry_places xs)
+entry_places xs = map-map place_of write_in xs

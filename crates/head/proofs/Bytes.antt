@@ -5,11 +5,10 @@ use Rattle.std.proofs.lemmas.List.{length-append, length-take-le, length-replica
 use borrow.Rule.Slice.PartMut.{put_mid, mid_of}
 use Rattle.std.specs.Simd.{first_chunks}
 use Rattle.std.specs.Int.{w16, from_le_bytes}
-use Rattle.std.proofs.lemmas.Slice.Eq.{compares_Decides}
-use Rattle.std.proofs.lemmas.Bool.{and_parts, le-leb, leb-true, lt-ltb}
+use Rattle.std.proofs.lemmas.Bool.{and_parts, leb-true}
 use Rattle.head.specs.Head as model
 use Rattle.head.specs.Head.{place_bytes, places_read, two_bytes, four_bytes, sections, encode, decode, candidate, fits, same_bytes, all_below, none_twice}
-use Rattle.head.proofs.RoundTrip.{decode_encode, decode_sound}
+use Rattle.head.proofs.RoundTrip.{same_decides, decode_encode, decode_sound}
 use Rattle.head.specs.declared.head.Head.{Head}
 use Rattle.std.specs.Bool.{then_some}
 use Rattle.head.specs.Codes.{head_of, found}
@@ -103,15 +102,6 @@ pub candidate_is : (h : model.Head) (block : List ℕ) →
     h.places ≡ places_read (get_or block 5 0) (drop 6 block) → h ≡ candidate block
 unfolding candidate
 candidate_is h block a b = λ j. record { number = a j; places = b j }
-
--- a head whose numbers are in range fits if its places do
-pub fits_is : (n : ℕ) (h : model.Head) → h.number < 4_294_967_296 → length h.places ≤ 8 → fits n h ≡ (all_below n h.places && none_twice h.places)
-fits_is n h a b =
-    ap (λ t. t && (leb (length h.places) 8 && (all_below n h.places && none_twice h.places))) (lt-ltb h.number 4_294_967_296 a)
-    ∙ ap (λ t. t && (all_below n h.places && none_twice h.places)) (le-leb (length h.places) 8 b)
-
-same_decides : (xs ys : List ℕ) → Decides (same_bytes xs ys) (xs ≡ ys)
-same_decides = compares_Decides same_bytes (record { empty = refl; shorter = λ y ys. refl; longer = λ x xs. refl; heads = λ x y xs ys. refl })
 
 -- the test that decodes a block
 pub decode_by : (n : ℕ) (b : List ℕ) (h : model.Head) → h ≡ candidate b → (t : Bool) → Decides t (encode h ≡ b) → decode n b ≡ cond (fits n h && t) (some h) none

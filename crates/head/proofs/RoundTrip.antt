@@ -1,22 +1,16 @@
 -- The head's bytes: what was encoded is read back, and no other block is a head.
-use Rattle.std.proofs.Common.{◌≡◌, ℕ, ◌+◌, ◌-◌, ◌*◌, ◌/◌, ◌%◌, ◌<◌, ◌≤◌, Bool, true, false, cond, ◌&&◌, eqb, ltb, leb, List, [], ◌∷◌, ◌++◌, length, replicate, sym, refl, ap, ◌∙◌, subst, arith}
-use mathlib.Core.Option.{Option, some, none}
+use Rattle.std.proofs.Common.{◌≡◌, ℕ, ◌+◌, ◌-◌, ◌*◌, ◌/◌, ◌%◌, ◌<◌, ◌≤◌, Bool, true, false, cond, ◌&&◌, ltb, leb, List, [], ◌∷◌, ◌++◌, length, replicate, Decides, sym, refl, ap, ◌∙◌, subst, arith}
+use mathlib.Core.Option.{some, none}
+use Rattle.std.proofs.Math.Option.{none-ne-some, some-injective}
 use native.Mathlib.Nat.{div-div-eq-div-mul, mod-add-div}
-use Rattle.std.proofs.lemmas.Bool.{both_ways, and_parts, and_from, eqb-true, eq-eqb, ltb-true}
+use Rattle.std.proofs.lemmas.Bool.{and_parts, and_from, ltb-true}
+use Rattle.std.proofs.lemmas.Slice.Eq.{compares_Decides}
 use Rattle.disk.specs.Medium.{Block}
 use Rattle.head.specs.Head.{Head, encode, decode, fits, candidate, same_bytes, place_bytes, places_read, all_below, none_twice, sections}
 
-same_refl : (xs : List ℕ) → same_bytes xs xs ≡ true
-same_refl [] = refl
-same_refl (x ∷ xs) = and_from (eqb x x) (same_bytes xs xs) (eq-eqb x x refl) (same_refl xs)
-
-same_is : (xs ys : List ℕ) → same_bytes xs ys ≡ true → xs ≡ ys
-same_is [] [] e = refl
-same_is [] (y ∷ ys) e = absurd (both_ways false refl e)
-same_is (x ∷ xs) [] e = absurd (both_ways false refl e)
-same_is (x ∷ xs) (y ∷ ys) e =
-    let a : (eqb x y ≡ true) × (same_bytes xs ys ≡ true) = and_parts (eqb x y) (same_bytes xs ys) e in
-    λ j. eqb-true x y a.0 j ∷ same_is xs ys a.1 j
+-- the test that two blocks are the same
+pub same_decides : (xs ys : List ℕ) → Decides (same_bytes xs ys) (xs ≡ ys)
+same_decides = compares_Decides same_bytes (record { empty = refl; shorter = λ y ys. refl; longer = λ x xs. refl; heads = λ x y xs ys. refl })
 
 two_back : (p : ℕ) → p < 65_536 → p % 256 + 256 * (p / 256 % 256) ≡ p
 two_back p l = omega arith
@@ -26,16 +20,13 @@ four_digits : (k q₁ q₂ q₃ r₀ r₁ r₂ r₃ : ℕ) → r₀ + 256 * q₁
     r₀ + (256 * r₁ + (65_536 * r₂ + 16_777_216 * r₃)) ≡ k
 four_digits k q₁ q₂ q₃ r₀ r₁ r₂ r₃ e₀ e₁ e₂ e₃ = omega arith
 
-below_256 : (x : ℕ) → x < 256 → x % 256 ≡ x
-below_256 x l = omega arith
-
 four_back : (k : ℕ) → k < 4_294_967_296 →
     k % 256 + (256 * (k / 256 % 256) + (65_536 * (k / 65_536 % 256) + 16_777_216 * (k / 16_777_216 % 256))) ≡ k
 four_back k l = four_digits k (k / 256) (k / 65_536) (k / 16_777_216) (k % 256) (k / 256 % 256) (k / 65_536 % 256) (k / 16_777_216 % 256)
     (mod-add-div k 256)
     (subst (λ x. k / 256 % 256 + 256 * x ≡ k / 256) (div-div-eq-div-mul k 256 256) (mod-add-div (k / 256) 256))
     (subst (λ x. k / 65_536 % 256 + 256 * x ≡ k / 65_536) (div-div-eq-div-mul k 65_536 256) (mod-add-div (k / 65_536) 256))
-    (below_256 (k / 16_777_216) (omega arith))
+    (omega arith)
 
 places_back : (n : ℕ) → n ≤ 65_536 → (ps zs : List ℕ) → all_below n ps ≡ true → places_read (length ps) (place_bytes ps ++ zs) ≡ ps
 places_back n small [] zs a = refl
@@ -52,7 +43,7 @@ pub decode_encode : (n : ℕ) (h : Head) → n ≤ 65_536 → fits n h ≡ true 
 unfolding decode
 decode_encode n h small f =
     subst (λ (x : Head). cond (fits n x && same_bytes (encode h) (encode x)) (some x) none ≡ some h) (sym (candidate_encode n h small number below))
-    (ap (λ b. cond b (some h) none) (and_from (fits n h) (same_bytes (encode h) (encode h)) f (same_refl (encode h))))
+    (ap (λ b. cond b (some h) none) (and_from (fits n h) (same_bytes (encode h) (encode h)) f ((same_decides (encode h) (encode h)).1 refl)))
   where
     a : (ltb h.number 4_294_967_296 ≡ true) × ((leb (length h.places) 8 && (all_below n h.places && none_twice h.places)) ≡ true)
     a = and_parts (ltb h.number 4_294_967_296) (leb (length h.places) 8 && (all_below n h.places && none_twice h.places)) f
@@ -64,23 +55,15 @@ decode_encode n h small f =
     below = (and_parts (all_below n h.places) (none_twice h.places)
         (and_parts (leb (length h.places) 8) (all_below n h.places && none_twice h.places) a.1).1).0
 
-abbrev Given : Option Head → Type 0
-Given none = ⊥
-Given (some x) = Unit {0}
-
-abbrev or_else : Option Head → Head → Head
-or_else none d = d
-or_else (some x) d = x
-
 pub decode_sound : (n : ℕ) (b : Block) (h : Head) → decode n b ≡ some h → (b ≡ encode h) × (fits n h ≡ true)
 unfolding decode
 decode_sound n b h e = go (fits n (candidate b) && same_bytes b (encode (candidate b))) refl e
   where
     go : (t : Bool) → (fits n (candidate b) && same_bytes b (encode (candidate b))) ≡ t → cond t (some (candidate b)) none ≡ some h →
         (b ≡ encode h) × (fits n h ≡ true)
-    go false q r = absurd (subst Given (sym r) tt)
+    go false q r = absurd (none-ne-some h r)
     go true q r =
         let a : (fits n (candidate b) ≡ true) × (same_bytes b (encode (candidate b)) ≡ true)
         = and_parts (fits n (candidate b)) (same_bytes b (encode (candidate b))) q in
-        let c : candidate b ≡ h = ap (λ o. or_else o (candidate b)) r in
-        (same_is b (encode (candidate b)) a.1 ∙ ap encode c, subst (λ (x : Head). fits n x ≡ true) c a.0)
+        let c : candidate b ≡ h = some-injective (candidate b) h r in
+        ((same_decides b (encode (candidate b))).0 a.1 ∙ ap encode c, subst (λ (x : Head). fits n x ≡ true) c a.0)

@@ -1,6 +1,7 @@
 -- What the tests and parts of each call say of the model.
 use Rattle.std.proofs.Common.{◌≡◌, ℕ, suc, ◌+◌, Bool, true, false, cond, not, eqb, ltb, leb, List, [], ◌∷◌, ◌++◌, map, length, is_some as option_is_some, Some, None, Ok, Err, Option, Result, sym, refl, ap, ◌∙◌, subst, add-one}
 use mathlib.Core.Option.{Option as Maybe, some, none}
+use Rattle.std.proofs.Math.Option.{none-ne-some}
 use Rattle.batch.specs.Rows.{write_list}
 use Rattle.disk.specs.declared.error.Kind.TheVariants as kind
 use Rattle.disk.specs.declared.error.DiskError.{DiskError}
@@ -18,7 +19,6 @@ use Rattle.journal_law.specs.Recovery.{home_blocks}
 use Rattle.journal_law.specs.Laws.{JustRecovered, Ran, no_call, Laws, RunsOn}
 use Rattle.journal_volume.specs.Recovering.{with_number}
 use Rattle.journal.specs.Ends.{Starts}
-use Rattle.journal_law.proofs.Tables.{none_some}
 use Rattle.journal_law.proofs.Running.{lawful_runs, runs_on}
 use Rattle.group.specs.declared.phase.Phase.{Phase}
 use Rattle.group.specs.declared.phase.Phase.TheVariants as phase
@@ -343,7 +343,7 @@ restart_by device v choice m o e f =
 -- ---- read
 
 cached_first : (place : ℕ) (xs ys : List Write) (b : Block) → cached place xs ≡ some b → cached place (xs ++ ys) ≡ some b
-cached_first place [] ys b e = absurd (none_some b e)
+cached_first place [] ys b e = absurd (none-ne-some b e)
 cached_first place (x ∷ xs) ys b e = go (eqb x.place place) e (cached_first place xs ys b)
   where
     go : (t : Bool) → cond t (some x.bytes) (cached place xs) ≡ some b → (cached place xs ≡ some b → cached place (xs ++ ys) ≡ some b) → cond t (some x.bytes) (cached place (xs ++ ys)) ≡ some b
@@ -355,7 +355,7 @@ cached_later place [] ys e = refl
 cached_later place (x ∷ xs) ys e = go (eqb x.place place) e (cached_later place xs ys)
   where
     go : (t : Bool) → cond t (some x.bytes) (cached place xs) ≡ none → (cached place xs ≡ none → cached place (xs ++ ys) ≡ cached place ys) → cond t (some x.bytes) (cached place (xs ++ ys)) ≡ cached place ys
-    go true f r = absurd (none_some x.bytes (sym f))
+    go true f r = absurd (none-ne-some x.bytes (sym f))
     go false f r = r f
 
 pub cached_collected : (place : ℕ) (xs ys : List Write) (b : Block) → some b ≡ cached place xs → some b ≡ cached place (xs ++ ys)
@@ -417,9 +417,6 @@ module _ (device : Device) (v : Live) (place room : ℕ) where
       go wrong_place z a l b = by wrong_place _ z refl b _ l a refl
 
 -- what the group holds for a read
-pub no_group : (o : Option CodeGroup) → o ≡ None → group_writes (under_way o) ≡ []
-no_group o e = ap (λ x. group_writes (under_way x)) e
-
 pub some_group : (o : Option CodeGroup) (G : CodeGroup) → o ≡ Some G → group_writes (under_way o) ≡ write_list G.writes
 some_group o G e = ap (λ x. group_writes (under_way x)) e
 

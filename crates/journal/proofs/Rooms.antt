@@ -1,11 +1,12 @@
 -- The places that are collected or open: how many they are, and that they stay below the head and apart.
 use Rattle.std.proofs.Common.{◌≡◌, ℕ, zero, suc, ◌+◌, ◌<◌, ◌≤◌, Bool, true, false, cond, not, eqb, ltb, List, [], ◌∷◌, ◌++◌, map, length, sym, refl, ap, ◌∙◌, subst, ⊎_elim, arith}
 use mathlib.Core.Option.{some, none}
+use Rattle.std.proofs.Math.Option.{none-ne-some}
 use Rattle.std.proofs.lemmas.Bool.{and_parts, and_from, ltb-true, lt-ltb, eqb-true, eqb-false, ne_eqb, not_from_false, cases_lt, both_ways}
 use Rattle.head.specs.Head.{holds, all_below, none_twice}
 use Rattle.journal_law.specs.Cache.{Begun, begun_place, different, find, without}
 use Rattle.journal_law.proofs.Entries.{either_right}
-use Rattle.journal_law.proofs.Tables.{holds_append, different_mono, different_past, different_fresh, length_different, once_parts, holds_without, none_some}
+use Rattle.journal_law.proofs.Tables.{holds_append, different_mono, different_past, different_fresh, length_different, once_parts, holds_without}
 use Rattle.batch.specs.declared.entry.Entry.{Entry}
 use Rattle.batch.specs.Rows.{place_in, begun_in, outside}
 
@@ -193,7 +194,7 @@ without_none ticket [] e = refl
 without_none ticket (o ∷ os) e = go (eqb o.mark ticket) e (without_none ticket os)
   where
     go : (t : Bool) → cond t (some o) (find ticket os) ≡ none → (find ticket os ≡ none → without ticket os ≡ os) → cond t os (o ∷ without ticket os) ≡ o ∷ os
-    go true f r = absurd (none_some o (sym f))
+    go true f r = absurd (none-ne-some o (sym f))
     go false f r = ap (λ l. o ∷ l) (r f)
 
 pub shorter_without : (ticket : ℕ) (os : List Begun) → length (without ticket os) ≤ length os

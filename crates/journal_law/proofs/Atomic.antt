@@ -1,6 +1,7 @@
 -- Recovery is atomic: wherever the power fails, it shows the last committed sealing or the one under way.
 use Rattle.std.proofs.Common.{◌≡◌, ℕ, zero, suc, ◌+◌, ◌<◌, ◌≤◌, ◌⊎◌, List, [], map, length, get_or, take, sym, refl, ap, ◌∙◌, subst, inl, inr, ⊎_elim, arith}
 use mathlib.Core.Option.{Option, some, none}
+use Rattle.std.proofs.Math.Option.{none-ne-some, some-injective}
 use Rattle.std.proofs.lemmas.List.{length-take-le, get_or-take, ext_get_or}
 use Rattle.disk.specs.Medium.{Effect, Block, Write, Medium, current, cut}
 use Rattle.errors.specs.declared.CacheError.{CacheError}
@@ -14,7 +15,6 @@ use Rattle.journal_law.proofs.Media.{Keeps, kept_mono, kept_current, length_curr
 use Rattle.journal_law.proofs.Forms.{Idle}
 use Rattle.journal_law.proofs.Restore.{Recovers, recovers_cut, idle, broken_recovers, success}
 use Rattle.journal_law.proofs.Invariant.{content, InPhase, State, Invariant}
-use Rattle.journal_law.proofs.Tables.{some_same, none_some}
 use Rattle.journal_law.proofs.Phases.{phase_cut}
 use Rattle.journal_law.proofs.Entries.{no_writes}
 use Rattle.journal_law.proofs.Calls.{call_holds}
@@ -131,8 +131,8 @@ moved_one l (some u) s e (inl q) = go u.phase q
 moved_one l (some u) s e (inr (x, f, q)) = go (next_phase u.blocks u.phase) f
   where
     go : (next : Option Phase) → in_phase_now u next ≡ some x → OneIn l s
-    go none f = absurd (none_some x f)
-    go (some ph) f = inr (u, e, q ∙ ap (λ (y : UnderWay). y.sealing) (sym (some_same (record { sealing = u.sealing; blocks = u.blocks; phase = ph }) x f)))
+    go none f = absurd (none-ne-some x f)
+    go (some ph) f = inr (u, e, q ∙ ap (λ (y : UnderWay). y.sealing) (sym (some-injective (record { sealing = u.sealing; blocks = u.blocks; phase = ph }) x f)))
 
 step_one : (l : Ledger) (a : Answer) (s : Sealing) → OneIn (note l step a) s → OneIn l s
 step_one l (shown b) s o = o
@@ -148,7 +148,7 @@ restart_one : (l : Ledger) (u : Option UnderWay) (s : Sealing) → l.under_way �
 restart_one l none s e o = o
 restart_one l (some u) s e (inl q) = inl q
 restart_one l (some u) s e (inr (x, f, q)) =
-    inr (u, e, q ∙ ap (λ (y : UnderWay). y.sealing) (sym (some_same (record { sealing = u.sealing; blocks = u.blocks; phase = restarted_phase u.phase }) x f)))
+    inr (u, e, q ∙ ap (λ (y : UnderWay). y.sealing) (sym (some-injective (record { sealing = u.sealing; blocks = u.blocks; phase = restarted_phase u.phase }) x f)))
 
 abbrev NotSeal : Call → Type 0
 NotSeal seal = ⊥

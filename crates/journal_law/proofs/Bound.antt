@@ -2,6 +2,7 @@
 -- no other call but restart.
 use Rattle.std.proofs.Common.{◌≡◌, ℕ, suc, ◌+◌, ◌≤◌, Bool, true, false, cond, ltb, List, [], ◌∷◌, ◌++◌, length, sym, refl, ap, ◌∙◌, subst, arith}
 use mathlib.Core.Option.{Option, some, none}
+use Rattle.std.proofs.Math.Option.{none-ne-some, some-injective}
 use Rattle.std.proofs.lemmas.Bool.{ltb-true}
 use Rattle.disk.specs.Medium.{Effect, Block, Write, Entry, good, bad, due, later, Medium, size}
 use Rattle.disk.specs.Calls.{Fate, fate, served, failed, wrong_length, wrong_place, by_entry as fate_by}
@@ -11,7 +12,6 @@ use Rattle.journal_law.specs.Ledger.{Sealing, UnderWay, Ledger}
 use Rattle.journal_law.specs.Laws.{calls_left, step_count, IsRestart}
 use Rattle.std.specs.List.{AllByRecursion}
 use Rattle.journal_law.proofs.Media.{wrote_plan}
-use Rattle.journal_law.proofs.Tables.{some_same, none_some}
 use Rattle.journal_law.proofs.Invariant.{State, Invariant}
 use Rattle.journal_law.proofs.Calls.{decided_both}
 use Rattle.journal_law.proofs.Held.{Held, InTurn, turn_of, phase_fate}
@@ -102,7 +102,7 @@ module _ (n : ℕ) (opening : List Block) (device : Device) (v : Live) (l : Ledg
     where
       go : (g : Option Group) (u : Option UnderWay) → v.group ≡ g → State n opening v.medium.firm v.medium.loose v.last g u l.committed →
           DueIn k bound (suc done) (stepped n device v g).live
-      go none u e a = record { left = λ g f. absurd (none_some g (sym e ∙ f)); given = d.given }
+      go none u e a = record { left = λ g f. absurd (none-ne-some g (sym e ∙ f)); given = d.given }
       go (some g) none e a = absurd a
       go (some g) (some u) e (is_last, number, blocks, phase, names, a) =
           subst (λ f. DueIn k bound (suc done) (step_met device v g call f).live)
@@ -116,9 +116,9 @@ module _ (n : ℕ) (opening : List Block) (device : Device) (v : Live) (l : Ledg
           turn = turn_of n opening g u.sealing l.committed v.medium.firm v.medium.loose g.phase a
 
           moved : (next : Option Phase) (x : Group) → in_phase g next ≡ some x → (x.number ≡ g.number) × (left_in (length g.writes) next ≡ calls_left (length x.writes) x.phase)
-          moved none x f = absurd (none_some x f)
+          moved none x f = absurd (none-ne-some x f)
           moved (some ph) x f =
-              let q : record { number = g.number; writes = g.writes; phase = ph } ≡ x = some_same (record { number = g.number; writes = g.writes; phase = ph }) x f in
+              let q : record { number = g.number; writes = g.writes; phase = ph } ≡ x = some-injective (record { number = g.number; writes = g.writes; phase = ph }) x f in
               (ap (λ (y : Group). y.number) (sym q), ap (λ (y : Group). calls_left (length y.writes) y.phase) q)
 
           at_good : DueIn k bound (suc done) (step_met device v g call served).live
@@ -150,7 +150,7 @@ module _ (n : ℕ) (opening : List Block) (device : Device) (v : Live) (l : Ledg
 
   seal_due : DueIn k bound done (sealed v).live
   seal_due = record {
-    left = λ g e f. absurd (omega (arith, d.given, f, ap (λ (x : Group). x.number) (some_same (record { number = suc v.last; writes = v.collected; phase = slot 0 }) g e)));
+    left = λ g e f. absurd (omega (arith, d.given, f, ap (λ (x : Group). x.number) (some-injective (record { number = suc v.last; writes = v.collected; phase = slot 0 }) g e)));
     given = omega (arith, d.given);
   }
 
@@ -177,11 +177,11 @@ module _ (n : ℕ) (opening : List Block) (device : Device) (v : Live) (l : Ledg
 pub same_group : (n : ℕ) (opening firm : List Block) (loose : List Write) (last : ℕ) (g : Option Group) (u : Option UnderWay) (c : Sealing) →
     State n opening firm loose last g u c → (x : UnderWay) → u ≡ some x →
     (y : Group) × (g ≡ some y) × (x.sealing.number ≡ y.number) × (x.blocks ≡ length y.writes) × (x.phase ≡ y.phase) × (last ≡ y.number) × InTurn (length y.writes) y.phase
-same_group n opening firm loose last none none c a x e = absurd (none_some x e)
+same_group n opening firm loose last none none c a x e = absurd (none-ne-some x e)
 same_group n opening firm loose last none (some u) c a x e = absurd a
 same_group n opening firm loose last (some g) none c a x e = absurd a
 same_group n opening firm loose last (some g) (some u) c (is_last, number, blocks, phase, names, a) x e =
-    let q : u ≡ x = some_same u x e in (
+    let q : u ≡ x = some-injective u x e in (
       g,
       refl,
       ap (λ (z : UnderWay). z.sealing.number) (sym q) ∙ number,

@@ -1,6 +1,7 @@
 -- Every call of the cache, accepted or refused, keeps the invariant.
 use Rattle.std.proofs.Common.{◌≡◌, ℕ, suc, ◌+◌, ◌<◌, ◌≤◌, Bool, true, false, cond, not, eqb, ltb, leb, List, [], ◌∷◌, ◌++◌, map, length, get_or, sym, refl, ap, ◌∙◌, subst, inl, arith}
 use mathlib.Core.Option.{Option, some, none}
+use Rattle.std.proofs.Math.Option.{none-ne-some}
 use Rattle.std.proofs.lemmas.List.{length-map}
 use Rattle.std.proofs.lemmas.Bool.{leb-false, ltb-false, eqb-false, both_ways}
 use Rattle.disk.specs.Medium.{Block, Write, lay, Medium, passed, cut}
@@ -15,7 +16,7 @@ use Rattle.journal_law.proofs.Forms.{head_of, Idle, Logged, Names}
 use Rattle.head.proofs.RoundTrip.{decode_encode}
 use Rattle.journal_law.proofs.Restore.{get_d_places}
 use Rattle.journal_law.proofs.Start.{parts_fit, inside_all, blank_decodes}
-use Rattle.journal_law.proofs.Tables.{holds_append, different_mono, length_different, none_some}
+use Rattle.journal_law.proofs.Tables.{holds_append, different_mono, length_different}
 use Rattle.journal_law.proofs.Invariant.{content, InPhase, State, last_sealed, Invariant}
 use Rattle.journal_law.proofs.Phases.{phase_restart}
 use Rattle.journal_law.proofs.Steps.{same_phase, phase_step, phase_sealed}
@@ -23,7 +24,7 @@ use Rattle.journal_law.proofs.Entries.{table_begin, table_finish, table_withdraw
 
 -- a call that passed its first test
 pub passed_test : (b : Bool) (r : CacheError) (rest : Option CacheError) → cond b (some r) rest ≡ none → (b ≡ false) × (rest ≡ none)
-passed_test true r rest e = absurd (none_some r (sym e))
+passed_test true r rest e = absurd (none-ne-some r (sym e))
 passed_test false r rest e = (refl, e)
 
 pub decided_both : (P : Outcome → Type 0) (r : Option CacheError) (o : Outcome) (v : Live) → (r ≡ none → P o) →

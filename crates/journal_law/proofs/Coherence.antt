@@ -1,6 +1,7 @@
 -- A read shows the finished writes laid on the opening blocks by begin mark.
 use Rattle.std.proofs.Common.{◌≡◌, ℕ, ◌+◌, ◌<◌, Bool, true, false, cond, not, eqb, leb, List, [], ◌∷◌, ◌++◌, map, length, get_or, sym, refl, ap, ◌∙◌, subst, arith}
 use mathlib.Core.Option.{Option, some, none}
+use Rattle.std.proofs.Math.Option.{none-ne-some, some-injective}
 use Rattle.std.proofs.lemmas.Bool.{eqb-true, ne_eqb, leb-false}
 use Rattle.disk.specs.Medium.{Block, Write, Medium, current}
 use Rattle.disk.specs.Calls.{Fate, fate, served, failed, wrong_length, wrong_place}
@@ -14,7 +15,7 @@ use Rattle.journal_law.proofs.Media.{Keeps, kept_current, over, get_d_lay, lengt
 use Rattle.journal_law.proofs.Forms.{head_of, Idle, Logged, Replayed, Cleared}
 use Rattle.head.proofs.RoundTrip.{decode_sound}
 use Rattle.journal_law.proofs.Start.{fits_parts}
-use Rattle.journal_law.proofs.Tables.{some_same, none_some, fresh_places, once_parts}
+use Rattle.journal_law.proofs.Tables.{fresh_places, once_parts}
 use Rattle.journal_law.proofs.Invariant.{content, InPhase, State, last_sealed, Invariant}
 
 over_fresh : (ws : List Write) (p : ℕ) (x : Block) → AllByRecursion (λ (w : Write). w.place ≡ p → ⊥) ws → over ws p x ≡ x
@@ -23,14 +24,14 @@ over_fresh (w ∷ ws) p x a = ap (λ b. over ws p (cond b w.bytes x)) (ne_eqb w.
 
 -- what is cached for a place is what the writes leave there
 cached_some : (ws : List Write) (p : ℕ) (b x : Block) → none_twice (map place_of ws) ≡ true → cached p ws ≡ some b → over ws p x ≡ b
-cached_some [] p b x once e = absurd (none_some b e)
+cached_some [] p b x once e = absurd (none-ne-some b e)
 cached_some (w ∷ ws) p b x once e = go (eqb w.place p) refl e (cached_some ws p b x (once_parts w.place (map place_of ws) once).1)
   where
     go : (t : Bool) → eqb w.place p ≡ t → cond t (some w.bytes) (cached p ws) ≡ some b → (cached p ws ≡ some b → over ws p x ≡ b) →
         over ws p (cond t w.bytes x) ≡ b
     go true q f r = over_fresh ws p w.bytes
         (subst (λ z. AllByRecursion (λ (y : Write). y.place ≡ z → ⊥) ws) (eqb-true w.place p q) (fresh_places w.place ws (once_parts w.place (map place_of ws) once).0))
-        ∙ some_same w.bytes b f
+        ∙ some-injective w.bytes b f
     go false q f r = r f
 
 cached_none : (ws : List Write) (p : ℕ) (x : Block) → cached p ws ≡ none → over ws p x ≡ x
@@ -38,7 +39,7 @@ cached_none [] p x e = refl
 cached_none (w ∷ ws) p x e = go (eqb w.place p) e (cached_none ws p x)
   where
     go : (t : Bool) → cond t (some w.bytes) (cached p ws) ≡ none → (cached p ws ≡ none → over ws p x ≡ x) → over ws p (cond t w.bytes x) ≡ x
-    go true f r = absurd (none_some w.bytes (sym f))
+    go true f r = absurd (none-ne-some w.bytes (sym f))
     go false f r = r f
 
 abbrev first_of : Option Block → Option Block → Option Block

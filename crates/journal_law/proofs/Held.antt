@@ -2,6 +2,7 @@
 -- fault alone.
 use Rattle.std.proofs.Common.{◌≡◌, ℕ, zero, suc, ◌+◌, ◌<◌, ◌≤◌, Bool, true, false, cond, not, eqb, ltb, leb, List, [], ◌∷◌, ◌++◌, map, length, sym, refl, ap, ◌∙◌, subst, arith}
 use mathlib.Core.Option.{Option, some, none}
+use Rattle.std.proofs.Math.Option.{none-ne-some}
 use Rattle.std.proofs.lemmas.List.{length_push, length-map}
 use Rattle.std.proofs.lemmas.Bool.{eqb-true, not-false, ltb-false, leb-false, eq-eqb, lt-ltb}
 use Rattle.std.proofs.ByRecursion.{All-push}
@@ -17,7 +18,7 @@ use Rattle.journal_law.specs.Cache.{Begun, Phase, slot, slots_flush, head, head_
 use Rattle.journal_law.specs.Ledger.{Sealing, UnderWay, Ledger}
 use Rattle.std.specs.List.{AllByRecursion}
 use Rattle.journal_law.proofs.Forms.{Names}
-use Rattle.journal_law.proofs.Tables.{none_some, find_in, all_without}
+use Rattle.journal_law.proofs.Tables.{find_in, all_without}
 use Rattle.journal_law.proofs.Invariant.{InPhase, State, Invariant}
 use Rattle.journal_law.proofs.Calls.{passed_test, decided_both}
 
@@ -44,7 +45,7 @@ all_collect P w (x ∷ xs) p a = go (eqb x.place w.place) (all_collect P w xs p 
     go false r = (a.0, r)
 
 pub length_without : (ticket : ℕ) (os : List Begun) (o : Begun) → find ticket os ≡ some o → suc (length (without ticket os)) ≡ length os
-length_without ticket [] o e = absurd (none_some o e)
+length_without ticket [] o e = absurd (none-ne-some o e)
 length_without ticket (x ∷ os) o e = go (eqb x.mark ticket) e (length_without ticket os o)
   where
     go : (b : Bool) → cond b (some x) (find ticket os) ≡ some o → (find ticket os ≡ some o → suc (length (without ticket os)) ≡ length os) →

@@ -1,6 +1,7 @@
 -- The laws along every run.
 use Rattle.std.proofs.Common.{◌≡◌, ℕ, ◌+◌, ◌≤◌, true, false, ◌≢◌, List, [], ◌∷◌, ◌++◌, length, take, sym, refl, ap, ◌∙◌, subst, subst₂, arith}
 use mathlib.Core.Option.{Option, some, none}
+use Rattle.std.proofs.Math.Option.{some-injective}
 use Rattle.std.proofs.lemmas.List.{append_assoc, append-nil}
 use Rattle.std.proofs.lemmas.Bool.{both_ways}
 use Rattle.disk.specs.declared.error.Kind.{Kind}
@@ -20,7 +21,6 @@ use Rattle.journal_law.proofs.Media.{Keeps}
 use Rattle.journal_law.proofs.Forms.{Idle}
 use Rattle.journal_law.proofs.Restore.{At, calls_hold, broken_recovers}
 use Rattle.journal_law.proofs.Start.{fits_parts, found}
-use Rattle.journal_law.proofs.Tables.{some_same}
 use Rattle.journal_law.proofs.Invariant.{content, State, Invariant}
 use Rattle.journal_law.proofs.Calls.{call_holds}
 use Rattle.journal_law.proofs.Atomic.{opening_length, opened_holds, Recoverable, live_size, cut_recoverable, within_recoverable, recoverable_safe}
@@ -151,7 +151,7 @@ module _ (n k : ℕ) (m : Medium) (j : JustRecovered n k m) where
         let y = same_group n opening v.medium.firm v.medium.loose v.last v.group (replay (opening_ledger k) es).under_way (replay (opening_ledger k) es).committed inv.state u e in
         record {
           left = λ g f q.
-              let same : y.0 ≡ g = some_same y.0 g (sym y.1 ∙ f) in
+              let same : y.0 ≡ g = some-injective y.0 g (sym y.1 ∙ f) in
               subst (λ (x : Group). calls_left (length x.writes) x.phase + bads v.medium.plan + 0 ≤ calls_left u.blocks u.phase + bads v.medium.plan) same
               (subst₂ (λ b ph. calls_left (length y.0.writes) y.0.phase + bads v.medium.plan + 0 ≤ calls_left b ph + bads v.medium.plan) (sym y.3) (sym y.4) (omega arith));
           given = omega (arith, y.2, y.5);

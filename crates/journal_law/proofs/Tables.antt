@@ -1,6 +1,7 @@
 -- The tables of the cache: collecting a write, the order of begin marks, and how many different places there are.
 use Rattle.std.proofs.Common.{◌≡◌, ℕ, zero, suc, ◌+◌, ◌<◌, ◌≤◌, Bool, true, false, cond, not, eqb, ltb, List, [], ◌∷◌, ◌++◌, map, length, set, sym, refl, ap, ◌∙◌, subst, arith}
-use mathlib.Core.Option.{Option, some, none}
+use mathlib.Core.Option.{some}
+use Rattle.std.proofs.Math.Option.{none-ne-some, some-injective}
 use Rattle.std.proofs.lemmas.List.{set-set, set_comm}
 use Rattle.std.proofs.lemmas.Bool.{eqb-true, eqb-false, eq-eqb, ne_eqb, ltb-true, ltb-false, lt-ltb, and_parts, and_from, not-true, not_from_false, both_ways}
 use Rattle.std.proofs.ByRecursion.{All-push, All-weaker}
@@ -215,26 +216,12 @@ length_different n (x ∷ xs) o b =
     omega (arith, length_different n xs once.1 inside.1, different_fresh n x xs (ltb-true x n inside.0) once.0)
 
 -- the open writes
-abbrev pub or_else : {A : Type 0} → Option A → A → A
-or_else none d = d
-or_else (some x) d = x
-
-abbrev pub Given : {A : Type 0} → Option A → Type 0
-Given none = ⊥
-Given (some x) = Unit {0}
-
-pub some_same : {A : Type 0} (x y : A) → some x ≡ some y → x ≡ y
-some_same x y e = ap (λ o. or_else o x) e
-
-pub none_some : {A : Type 0} (x : A) → none ≡ some x → ⊥
-none_some x e = subst Given (sym e) tt
-
 pub find_in : (P : Begun → Type 0) (ticket : ℕ) (os : List Begun) (o : Begun) → find ticket os ≡ some o → AllByRecursion P os → P o
-find_in P ticket [] o e a = absurd (none_some o e)
+find_in P ticket [] o e a = absurd (none-ne-some o e)
 find_in P ticket (x ∷ os) o e a = go (eqb x.mark ticket) e (λ f. find_in P ticket os o f a.1)
   where
     go : (b : Bool) → cond b (some x) (find ticket os) ≡ some o → (find ticket os ≡ some o → P o) → P o
-    go true f r = subst P (some_same x o f) a.0
+    go true f r = subst P (some-injective x o f) a.0
     go false f r = r f
 
 pub all_without : (P : Begun → Type 0) (ticket : ℕ) (os : List Begun) → AllByRecursion P os → AllByRecursion P (without ticket os)
@@ -266,16 +253,16 @@ apart_without ticket (x ∷ os) a = go (eqb x.mark ticket) (apart_without ticket
     go false r = (all_without (Elsewhere x) ticket os a.0, r)
 
 pub apart_found : (ticket : ℕ) (os : List Begun) (o : Begun) → find ticket os ≡ some o → Apart os → AllByRecursion (Elsewhere o) (without ticket os)
-apart_found ticket [] o e a = absurd (none_some o e)
+apart_found ticket [] o e a = absurd (none-ne-some o e)
 apart_found ticket (x ∷ os) o e a = go (eqb x.mark ticket) e (λ f. apart_found ticket os o f a.1)
   where
     go : (b : Bool) → cond b (some x) (find ticket os) ≡ some o → (find ticket os ≡ some o → AllByRecursion (Elsewhere o) (without ticket os)) →
         AllByRecursion (Elsewhere o) (cond b os (x ∷ without ticket os))
-    go true f r = subst (λ z. AllByRecursion (Elsewhere z) os) (some_same x o f) a.0
+    go true f r = subst (λ z. AllByRecursion (Elsewhere z) os) (some-injective x o f) a.0
     go false f r = ((λ q. find_in (Elsewhere x) ticket os o f a.0 (sym q)), r f)
 
 pub holds_found : (ticket : ℕ) (os : List Begun) (o : Begun) → find ticket os ≡ some o → holds o.write.place (map begun_place os) ≡ true
-holds_found ticket [] o e = absurd (none_some o e)
+holds_found ticket [] o e = absurd (none-ne-some o e)
 holds_found ticket (x ∷ os) o e = go (eqb x.mark ticket) e (holds_found ticket os o)
   where
     here : (b : Bool) (c : Bool) → c ≡ true → cond b true c ≡ true
@@ -285,7 +272,7 @@ holds_found ticket (x ∷ os) o e = go (eqb x.mark ticket) e (holds_found ticket
     go : (b : Bool) → cond b (some x) (find ticket os) ≡ some o → (find ticket os ≡ some o → holds o.write.place (map begun_place os) ≡ true) →
         holds o.write.place (map begun_place (x ∷ os)) ≡ true
     go true f r = ap (λ z. cond z true (holds o.write.place (map begun_place os)))
-        (eq-eqb x.write.place o.write.place (ap (λ (z : Begun). z.write.place) (some_same x o f)))
+        (eq-eqb x.write.place o.write.place (ap (λ (z : Begun). z.write.place) (some-injective x o f)))
     go false f r = here (eqb x.write.place o.write.place) (holds o.write.place (map begun_place os)) (r f)
 
 pub holds_without : (ticket q : ℕ) (os : List Begun) → holds q (map begun_place (without ticket os)) ≡ true → holds q (map begun_place os) ≡ true

@@ -78,7 +78,7 @@ module _ (precedes : Precedence) (lawful : Lawful precedes) (opening : List Bloc
         firm_is = i.store.firm_ok.firm_is ∙ ap (lay opening) (sym (kept_push i.store.kept x (new (i.store.kept (n + 1)) refl) l));
         kept_free = All-push _ l x (all_both (Sound n) _ _ (λ v s r h. released_push n l place bytes v s (r h)) l i.book.sound i.store.firm_ok.kept_free)
             (λ h. absurd (let k = i.store.firm_ok.below (n + 1) h in omega arith));
-        home_in = All-push _ l x i.store.firm_ok.home_in (λ h. absurd (let z : ◌≡◌ {A = ℕ} 0 1 = cc in omega arith));
+        home_in = All-push _ l x i.store.firm_ok.home_in (λ h. absurd cc);
       };
       loose_is = i.store.loose_is;
       due_ok = All-weaker _ _ (λ d h. (in_push d x l h.0, h.1, released_push n l place bytes d (all_in (Sound n) d l h.0 i.book.sound) h.2)) i.store.due i.store.due_ok;

@@ -117,7 +117,7 @@ not_blocked : (precedes : Precedence) → Lawful precedes → (n : ℕ) (table :
 not_blocked precedes lawful n [] p s w b e = both_ways false refl b
 not_blocked precedes lawful n (x ∷ table) p s w b e = let r : ready precedes (x ∷ table) x ≡ true = and_from _ _ w.0 (not_from_false _ unpreceded) in
     let q : Some x ≡ None = sym (cond-true (ready precedes (x ∷ table) x) (Some x) (find (ready precedes (x ∷ table)) table) r) ∙ e in
-    let z : ◌≡◌ {A = ℕ} 0 1 = cc in omega arith
+    cc
   where
     never : (u : Version) → Sound n u → x.stamp.begin ≤ u.stamp.begin → (k : Bool) → precedes u.stamp x.stamp ≡ k → precedes u.stamp x.stamp ≡ false
     never u su le false q = q

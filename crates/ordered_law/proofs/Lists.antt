@@ -133,7 +133,7 @@ none_pass p q (v ∷ l) e = go (p v) refl e (none_pass p q l)
     go false b e ih = ((λ h. grind arith), ih e)
 
 pub first_in : (p : Version → Bool) (v : Version) (l : List Version) → find p l ≡ Some v → In v l × (p v ≡ true)
-first_in p v [] e = absurd (let z : ◌≡◌ {A = ℕ} 0 1 = cc in omega arith)
+first_in p v [] e = absurd cc
 first_in p v (u ∷ l) e = go (p u) refl e (first_in p v l)
   where
     go : (b : Bool) → p u ≡ b → cond b (Some u) (find p l) ≡ Some v → (find p l ≡ Some v → In v l × (p v ≡ true)) → In v (u ∷ l) × (p v ≡ true)

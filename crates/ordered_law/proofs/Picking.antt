@@ -33,16 +33,10 @@ lowest p vs = best_of lower p vs
 abbrev pub highest : (Version → Bool) → List Version → Option Version
 highest p vs = best_of higher p vs
 
-differ : {A : Type 0} {v : Version} → None ≡ Some v → A
-differ e = let z : ◌≡◌ {A = ℕ} 0 1 = cc in absurd (omega arith)
-
-same_version : {u v : Version} → Some u ≡ Some v → u ≡ v
-same_version e = cc
-
 -- the row at the front of what is left
 at_drop : (table : List Row) (i : ℕ) (r : Row) (rest : List Row) → drop i table ≡ r ∷ rest → (i < length table) × (get_or table i None ≡ r) × (drop (suc i) table ≡ rest)
-at_drop [] zero r rest e = let z : ◌≡◌ {A = ℕ} 0 1 = cc in absurd (omega arith)
-at_drop [] (suc i) r rest e = let z : ◌≡◌ {A = ℕ} 0 1 = cc in absurd (omega arith)
+at_drop [] zero r rest e = absurd cc
+at_drop [] (suc i) r rest e = absurd cc
 at_drop (x ∷ table) zero r rest e = (omega arith, cc, cc)
 at_drop (x ∷ table) (suc i) r rest e = let h = at_drop table i r rest e in (omega (arith, h.0), h.1, h.2)
 
@@ -149,11 +143,11 @@ abbrev pub Distinct : List Version → Type 0
 Distinct l = Pairs (λ u v. u.stamp.begin ≢ v.stamp.begin) l
 
 pub all_at : (P : Version → Type 0) (rows : List Row) (i : ℕ) (v : Version) → get_or rows i None ≡ Some v → AllByRecursion P (in_rows rows) → P v
-all_at P [] zero v e a = differ e
-all_at P [] (suc i) v e a = differ e
-all_at P (None ∷ rows) zero v e a = differ e
+all_at P [] zero v e a = absurd cc
+all_at P [] (suc i) v e a = absurd cc
+all_at P (None ∷ rows) zero v e a = absurd cc
 all_at P (None ∷ rows) (suc i) v e a = all_at P rows i v e a
-all_at P (Some u ∷ rows) zero v e a = subst P (same_version e) a.0
+all_at P (Some u ∷ rows) zero v e a = let same : u ≡ v = cc in subst P same a.0
 all_at P (Some u ∷ rows) (suc i) v e a = all_at P rows i v e a.1
 
 unsent : (b : ℕ) (u : Version) → u.stamp.begin ≢ b → send_one b u ≡ u
@@ -173,12 +167,12 @@ sent_here v w = let e : eqb v.stamp.begin v.stamp.begin ≡ true = grind (arith,
 
 sent_row : (rows : List Row) (i : ℕ) (v : Version) → get_or rows i None ≡ Some v → is_waiting v.state ≡ true → Distinct (in_rows rows) →
     set rows i (Some (in_state Sent v)) ≡ change (send_one v.stamp.begin) rows
-sent_row [] zero v e w d = differ e
-sent_row [] (suc i) v e w d = differ e
-sent_row (None ∷ rows) zero v e w d = differ e
+sent_row [] zero v e w d = absurd cc
+sent_row [] (suc i) v e w d = absurd cc
+sent_row (None ∷ rows) zero v e w d = absurd cc
 sent_row (None ∷ rows) (suc i) v e w d = ap (λ l. None ∷ l) (sent_row rows i v e w d)
 sent_row (Some u ∷ rows) zero v e w d =
-    let same = same_version e in
+    let same : u ≡ v = cc in
     let others = subst (λ (x : Version). AllByRecursion (λ y. x.stamp.begin ≢ y.stamp.begin) (in_rows rows)) same d.0 in
     rw (same, sent_here v w, unsent_all v.stamp.begin rows others)
 sent_row (Some u ∷ rows) (suc i) v e w d =

@@ -13,7 +13,7 @@ use Rattle.table.specs.declared.held.State.TheVariants.{Home}
 use Rattle.table.specs.declared.held.Version.{Version}
 use Rattle.table.specs.Versions.{live, finished, held, finished_in}
 use Rattle.ordered_law.specs.Device.{Device}
-use Rattle.ordered_law.specs.Events.{Read, Answer, took, shown, counted, refused}
+use Rattle.ordered_law.specs.Events.{Read, shown}
 use Rattle.ordered_law.specs.Promise.{write_of, writes, kept_writes, Pairs, newest_block}
 use Rattle.ordered_law.proofs.Sorted.{next_bad, Sorted, SortedOutcome, last, newest, sorted_through, sorted_read, sorted_opened, sorted_outcome, Asked, after}
 use Rattle.ordered_law.proofs.Lists.{In, here, there, all_in, all_of, all_both, in_kept, pairs_kept, lay_length}
@@ -179,29 +179,20 @@ module _ (precedes : Precedence) (lawful : Lawful precedes) (opening : List Bloc
               (all_in (λ x. x.state ≡ Home → set_now x.stamp.begin ≡ true) v l j now_firm.home_in
               (home_of v.state (λ s. both_ways (at_place v) (all_in (λ x. live x.state ≡ true → at_place x ≡ false) v l j (in_held at_place l a) s) here_too) q)))
 
-abbrev is_shown : Answer → Bool
-is_shown (took n) = false
-is_shown (shown b) = true
-is_shown (counted t) = false
-is_shown (refused e) = false
-
 abbrev ShownNewest : List Block → List Version → ℕ → SortedOutcome → Type 0
 ShownNewest opening l place o = (b : Block) → o.answer ≡ shown b → b ≡ newest_block opening l place
-
-not_shown : {X : Type 0} (a : Answer) (b : Block) → is_shown a ≡ false → a ≡ shown b → X
-not_shown a b h e = absurd (both_ways (is_shown a) h (ap is_shown e))
 
 read_newest : (precedes : Precedence) → Lawful precedes → (opening : List Block) (l : List Version) (c : Sorted) → Keeps precedes opening l c → (device : Device) (place size : ℕ) →
     ShownNewest opening l place (sorted_read device place size c)
 read_newest precedes lawful opening l c i device place size =
-    cond_both (not (eqb size 512)) _ _ (ShownNewest opening l place) (λ _ b e. not_shown _ b refl e)
-    (λ _. cond_both (not (ltb place (length c.medium.firm))) _ _ (ShownNewest opening l place) (λ _ b e. not_shown _ b refl e)
+    cond_both (not (eqb size 512)) _ _ (ShownNewest opening l place) (λ _ b e. absurd cc)
+    (λ _. cond_both (not (ltb place (length c.medium.firm))) _ _ (ShownNewest opening l place) (λ _ b e. absurd cc)
     (λ in-range. go (ltb-true place (length c.medium.firm) (not-false (ltb place (length c.medium.firm)) in-range))
     (newest place c.table) (subst (λ (t : List Version). Found (finished_in place) (held l) (newest place t)) (sym i.table_is) (found_last (finished_in place) (held l) (pairs_kept Before (λ v. live v.state) l i.book.order)))))
   where
     go : place < length c.medium.firm → (o : Option Version) → Found (finished_in place) (held l) o → ShownNewest opening l place (sorted_through device place c o)
     go lt (Some v) f = λ b e. let q : v.bytes ≡ b = cc in sym q ∙ from_table precedes lawful opening l c i place lt v f
-    go lt None f = cond_both (next_bad c.medium.plan) _ _ (ShownNewest opening l place) (λ _ b e. not_shown _ b refl e)
+    go lt None f = cond_both (next_bad c.medium.plan) _ _ (ShownNewest opening l place) (λ _ b e. absurd cc)
         (λ _ b e. let q : get_or (current c.medium) place [] ≡ b = cc in sym q ∙ from_disk precedes lawful opening l c i place lt f)
 
 -- an accepted read, after these calls

@@ -1,5 +1,5 @@
 -- When a begin is accepted.
-use Rattle.std.proofs.Common.{◌≡◌, ℕ, ◌+◌, ◌<◌, ◌≤◌, Bool, true, false, cond, not, ◌&&◌, eqb, ltb, List, length, Some, None, Option, refl, arith}
+use Rattle.std.proofs.Common.{◌≡◌, ℕ, ◌+◌, ◌<◌, ◌≤◌, Bool, true, false, cond, not, ◌&&◌, eqb, ltb, List, length, Some, None, Option, refl}
 use Rattle.std.proofs.lemmas.Bool.{eqb-true, ltb-true, ltb-false, not-false}
 use Rattle.disk.specs.Medium.{Block}
 use Rattle.errors.specs.declared.CacheError.{CacheError}
@@ -12,16 +12,13 @@ pub unless_both : {A : Type 0} (o : Option CacheError) (done : A) (bad : CacheEr
 unless_both None done bad P f g = f refl
 unless_both (Some e) done bad P f g = g e
 
-some_none : {X : Type 0} {e : CacheError} → Some e ≡ None → X
-some_none q = let z : ◌≡◌ {A = ℕ} 0 1 = cc in absurd (omega arith)
-
 all_false : (a b c d f : Bool) → cond a (Some error.Length) (cond b (Some error.Place) (cond c (Some error.PlaceOpen) (cond d (Some error.NoRoom) (cond f (Some error.NoMarks) None)))) ≡ None →
     (a ≡ false) × (b ≡ false) × (c ≡ false) × (d ≡ false) × (f ≡ false)
-all_false true b c d f e = some_none e
-all_false false true c d f e = some_none e
-all_false false false true d f e = some_none e
-all_false false false false true f e = some_none e
-all_false false false false false true e = some_none e
+all_false true b c d f e = absurd cc
+all_false false true c d f e = absurd cc
+all_false false false true d f e = absurd cc
+all_false false false false true f e = absurd cc
+all_false false false false false true e = absurd cc
 all_false false false false false false e = (refl, refl, refl, refl, refl)
 
 -- what holds where a begin is accepted

@@ -1,5 +1,5 @@
 -- A run of the cache of rows is a list of calls of the cache in the order of begin marks, and so the laws hold along it.
-use Rattle.std.proofs.Common.{◌≡◌, ℕ, ◌+◌, ◌*◌, true, ◌≢◌, List, [], ◌∷◌, ◌++◌, map, length, sym, refl, ap, ◌∙◌, subst, ap₂, subst₂, arith}
+use Rattle.std.proofs.Common.{◌≡◌, ◌+◌, ◌*◌, true, ◌≢◌, List, [], ◌∷◌, ◌++◌, map, length, sym, refl, ap, ◌∙◌, subst, ap₂, subst₂, arith}
 use Rattle.std.specs.List.{AllByRecursion}
 use Rattle.std.proofs.lemmas.List.{length-map, map_push}
 use Rattle.disk.specs.Medium.{Medium, current, cut}
@@ -76,8 +76,8 @@ bounded_rows c b = record {
 only_steps : (asked : List Asked) (es : List Event) → map (λ a. a.call) asked ≡ map (λ e. e.call) es → AllByRecursion (λ e. e.call ≡ Step) es →
     (steps (map (λ a. a.device) asked) ≡ asked) × (length asked ≡ length es)
 only_steps [] [] q a = (refl, refl)
-only_steps [] (e ∷ es) q a = absurd (let z : ◌≡◌ {A = ℕ} 0 1 = cc in omega arith)
-only_steps (x ∷ asked) [] q a = absurd (let z : ◌≡◌ {A = ℕ} 0 1 = cc in omega arith)
+only_steps [] (e ∷ es) q a = absurd cc
+only_steps (x ∷ asked) [] q a = absurd cc
 only_steps (x ∷ asked) (e ∷ es) q a =
     let t : map (λ a. a.call) asked ≡ map (λ e. e.call) es = cc in
     let k : Step ≡ x.call = cc a.0 in

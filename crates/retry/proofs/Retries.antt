@@ -7,34 +7,31 @@ use Rattle.disk.specs.Calls.{is_fault, Answer, Fate, wrong_length, wrong_place, 
 use Rattle.retry.specs.Retried.{retried, retry_medium, tripled}
 use Rattle.disk.proofs.Media.{with_plan}
 
-clash : {A : Type 0} → good ≡ bad → A
-clash e = let z : ◌≡◌ {A = ℕ} 0 1 = cc in absurd (omega arith)
-
 -- a plan from which i bads and then a good are taken
 pub stop_good : (i : ℕ) (es : List Entry) → i < 3 → ((j : ℕ) → j < i → due (drop j es) ≡ bad) → due (drop i es) ≡ good → (due (retried es) ≡ good) × (retried (later (drop i es)) ≡ later (retried es))
 stop_good zero [] h b g = (refl, refl)
 stop_good zero (good ∷ es) h b g = (refl, refl)
-stop_good zero (bad ∷ es) h b g = clash (sym g)
-stop_good (suc i) [] h b g = clash (b 0 (omega arith))
-stop_good (suc i) (good ∷ es) h b g = clash (b 0 (omega arith))
+stop_good zero (bad ∷ es) h b g = absurd cc
+stop_good (suc i) [] h b g = absurd (cc (b 0 (omega arith)))
+stop_good (suc i) (good ∷ es) h b g = absurd (cc (b 0 (omega arith)))
 stop_good (suc zero) (bad ∷ []) h b g = (refl, refl)
 stop_good (suc zero) (bad ∷ (good ∷ es)) h b g = (refl, refl)
-stop_good (suc zero) (bad ∷ (bad ∷ es)) h b g = clash (sym g)
-stop_good (suc (suc i)) (bad ∷ []) h b g = clash (b 1 (omega arith))
-stop_good (suc (suc i)) (bad ∷ (good ∷ es)) h b g = clash (b 1 (omega arith))
+stop_good (suc zero) (bad ∷ (bad ∷ es)) h b g = absurd cc
+stop_good (suc (suc i)) (bad ∷ []) h b g = absurd (cc (b 1 (omega arith)))
+stop_good (suc (suc i)) (bad ∷ (good ∷ es)) h b g = absurd (cc (b 1 (omega arith)))
 stop_good (suc (suc zero)) (bad ∷ (bad ∷ [])) h b g = (refl, refl)
 stop_good (suc (suc zero)) (bad ∷ (bad ∷ (good ∷ es))) h b g = (refl, refl)
-stop_good (suc (suc zero)) (bad ∷ (bad ∷ (bad ∷ es))) h b g = clash (sym g)
+stop_good (suc (suc zero)) (bad ∷ (bad ∷ (bad ∷ es))) h b g = absurd cc
 stop_good (suc (suc (suc i))) (bad ∷ (bad ∷ es)) h b g = absurd (omega arith)
 
 -- a plan from which three bads are taken
 pub stop_bad : (es : List Entry) → ((j : ℕ) → j < 3 → due (drop j es) ≡ bad) → (due (retried es) ≡ bad) × (retried (drop 3 es) ≡ later (retried es))
-stop_bad [] b = clash (b 0 (omega arith))
-stop_bad (good ∷ es) b = clash (b 0 (omega arith))
-stop_bad (bad ∷ []) b = clash (b 1 (omega arith))
-stop_bad (bad ∷ (good ∷ es)) b = clash (b 1 (omega arith))
-stop_bad (bad ∷ (bad ∷ [])) b = clash (b 2 (omega arith))
-stop_bad (bad ∷ (bad ∷ (good ∷ es))) b = clash (b 2 (omega arith))
+stop_bad [] b = absurd (cc (b 0 (omega arith)))
+stop_bad (good ∷ es) b = absurd (cc (b 0 (omega arith)))
+stop_bad (bad ∷ []) b = absurd (cc (b 1 (omega arith)))
+stop_bad (bad ∷ (good ∷ es)) b = absurd (cc (b 1 (omega arith)))
+stop_bad (bad ∷ (bad ∷ [])) b = absurd (cc (b 2 (omega arith)))
+stop_bad (bad ∷ (bad ∷ (good ∷ es))) b = absurd (cc (b 2 (omega arith)))
 stop_bad (bad ∷ (bad ∷ (bad ∷ es))) b = (refl, refl)
 
 -- what a call meets, by its two checks and the plan
@@ -51,26 +48,20 @@ is_failed wrong_place = false
 is_failed failed = true
 is_failed served = false
 
-tell : {A : Type 0} (f : Fate) → is_failed f ≡ true → is_failed f ≡ false → A
-tell f e g = let z : ◌≡◌ {A = ℕ} 0 1 = cc in absurd (omega arith)
-
-no_fault : {A : Type 0} (f : Fate) → is_failed f ≡ false → f ≡ failed → A
-no_fault f n e = tell f (ap is_failed e) n
-
 bad_due : (e : Entry) → by_entry e ≡ failed → e ≡ bad
-bad_due good h = no_fault served refl h
+bad_due good h = absurd cc
 bad_due bad h = refl
 
 good_due : (e : Entry) → is_failed (by_entry e) ≡ false → e ≡ good
 good_due good h = refl
-good_due bad h = tell failed refl h
+good_due bad h = absurd cc
 
 -- a try that does not fail after i that did: the call meets the same on the plan worked out
 pub stops : (a b : Bool) (i : ℕ) (es : List Entry) → i < 3 → Faults a b i es → is_failed (gated a b (drop i es)) ≡ false → (gated a b (retried es) ≡ gated a b (drop i es)) × (retried (spent (drop i es) (gated a b (drop i es))) ≡ spent (retried es) (gated a b (drop i es)))
 stops false b zero es h fs n = (refl, refl)
-stops false b (suc i) es h fs n = no_fault wrong_length refl (fs 0 (omega arith))
+stops false b (suc i) es h fs n = absurd (cc (fs 0 (omega arith)))
 stops true false zero es h fs n = (refl, refl)
-stops true false (suc i) es h fs n = no_fault wrong_place refl (fs 0 (omega arith))
+stops true false (suc i) es h fs n = absurd (cc (fs 0 (omega arith)))
 stops true true i es h fs n =
     let g = good_due (due (drop i es)) n in
     let s = stop_good i es h (λ j l. bad_due (due (drop j es)) (fs j l)) g in
@@ -79,8 +70,8 @@ stops true true i es h fs n =
 
 -- three tries that fail
 pub gives_up : (a b : Bool) (es : List Entry) → Faults a b 3 es → (gated a b (retried es) ≡ failed) × (retried (drop 3 es) ≡ later (retried es))
-gives_up false b es fs = no_fault wrong_length refl (fs 0 (omega arith))
-gives_up true false es fs = no_fault wrong_place refl (fs 0 (omega arith))
+gives_up false b es fs = absurd (cc (fs 0 (omega arith)))
+gives_up true false es fs = absurd (cc (fs 0 (omega arith)))
 gives_up true true es fs = let s = stop_bad es (λ j l. bad_due (due (drop j es)) (fs j l)) in (ap by_entry s.0, s.1)
 
 later_suc : (i : ℕ) (es : List Entry) → later (drop i es) ≡ drop (suc i) es
@@ -101,14 +92,14 @@ fault_failed tries k place served = refl
 pub answer_any : (t u : ℕ) (k : Kind) (place : ℕ) (f : Fate) → is_failed f ≡ false → answer t k place f ≡ answer u k place f
 answer_any t u k place wrong_length n = refl
 answer_any t u k place wrong_place n = refl
-answer_any t u k place failed n = tell failed refl n
+answer_any t u k place failed n = absurd cc
 answer_any t u k place served n = refl
 
 failed_from : (f : Fate) → is_failed f ≡ true → f ≡ failed
-failed_from wrong_length e = tell wrong_length e refl
-failed_from wrong_place e = tell wrong_place e refl
+failed_from wrong_length e = absurd cc
+failed_from wrong_place e = absurd cc
 failed_from failed e = refl
-failed_from served e = tell served e refl
+failed_from served e = absurd cc
 
 -- what a good call does to the blocks and the loose writes does not hang on the plan, of which it takes an entry
 pub record PlanBlind (done : Medium → Medium) : Type 0 where
@@ -139,7 +130,7 @@ after_faults i m = with_plan m (drop i m.plan)
 leaves_by : (done : Medium → Medium) → PlanBlind done → (m : Medium) (i : ℕ) (f : Fate) → is_failed f ≡ false → retried (spent (drop i m.plan) f) ≡ spent (retried m.plan) f → retry_medium (leaves (after_faults i m) (done (after_faults i m)) f) ≡ leaves (retry_medium m) (done (retry_medium m)) f
 leaves_by done blind m i wrong_length n h = ap (with_plan m) h
 leaves_by done blind m i wrong_place n h = ap (with_plan m) h
-leaves_by done blind m i failed n h = tell failed refl n
+leaves_by done blind m i failed n h = absurd cc
 leaves_by done blind m i served n h =
     let d = done (after_faults i m) in
     ap (λ fs. with_plan d (retried fs)) (blind.takes (after_faults i m)) ∙ ap (with_plan d) h ∙ blind.blind m (drop i m.plan) (retried m.plan)

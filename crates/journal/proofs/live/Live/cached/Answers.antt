@@ -1,24 +1,16 @@
-use Rattle.std.proofs.Common.{◌≡◌, ℕ, List, Bor, Some, None, sym, ap, ◌∙◌, rules}
-use mathlib.Core.Option.{none}
+use Rattle.std.proofs.Common.{◌≡◌, ℕ, List, Bor, Some, sym, ap, ◌∙◌, rules}
 use Rattle.std.specs.Option.{option_map}
 use Rattle.journal_law.specs.Cache.{cached, group_writes}
 use Rattle.batch.specs.Options.{maybe}
 use Rattle.batch.specs.Rows.{write_list}
 use Rattle.group.specs.Groups.{under_way}
-use Rattle.journal.proofs.Outcomes.{cached_collected, cached_grouped, no_group, some_group}
+use Rattle.journal.proofs.Outcomes.{cached_collected, cached_grouped, some_group}
 use Rattle.journal.proofs.live.Live.cached.Goals as goal
 
 pub returns-in-Some : goal.returns-in-Some
 returns-in-Some g c =
     let s = c.args.self.now in
     cached_collected c.args.place (write_list s.collected) (group_writes (under_way s.group)) c.in-Some.bytes.now c.in-Some.ensures
-
-pub returns-in_err-as_ref : goal.returns-in_err-as_ref
-returns-in_err-as_ref g c =
-    let s = c.args.self.now in
-    let gone : s.group ≡ None = search rules in
-    ap (λ o. maybe (option_map (λ (b : Bor (List ℕ)). b.now) o)) c.from_residual.ensures
-    ∙ cached_grouped c.args.place (write_list s.collected) (group_writes (under_way s.group)) none c.in_default.ensures (ap (cached c.args.place) (sym (no_group s.group gone)))
 
 pub returns : goal.returns
 returns g c =
