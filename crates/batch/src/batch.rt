@@ -95,6 +95,7 @@ impl Batch {
     pub fn places(&self) -> ArrayVec<usize, MOST_PLACES>
         ensures { result.items ≡ place_list self.now }
     {
+        // A loop: `collect` into an ArrayVec takes an allocator and answers a Result.
         let mut places = ArrayVec::new();
         for entry in self.rows.as_slice() {
             places.push(entry.place);

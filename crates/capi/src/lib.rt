@@ -45,7 +45,7 @@ pub fn hecklemaroon_play(heap: Global, input: &[u8], buffer: &mut [u8]) -> Play
     Play { code: DONE, length }
 }
 
-// Fills a table of 32 writes and drains it in rounds, at most 1,000, under overlap or line; the length says how many writes went to the disk.
+// Fills a table of 32 writes and drains it in rounds, at most 1,000, under overlap or line (a flag, since C calls it); the length says how many writes went to the disk.
 pub fn hecklemaroon_drain(heap: Global, in_line: bool, rounds: u16) -> Play
     ensures { Drained in_line rounds result.code result.length }
 {

@@ -65,7 +65,7 @@ impl Head {
         block[1..5].copy_from_slice(&self.number.to_le_bytes());
         // At most eight places, so that their number fits a byte.
         block[5] = self.len() as u8;
-        // An index: the bytes of the i-th place lie at it.
+        // By an index: no clause says what a slice ends as that `as_chunks_mut` lent.
         for (i, place) in self.places().iter().enumerate() {
             block[6 + 2 * i..8 + 2 * i].copy_from_slice(&low_bytes(*place));
         }
@@ -77,7 +77,8 @@ impl Head {
 fn low_bytes(place: usize) -> [u8; 2]
     ensures { result ≡ two_bytes place }
 {
-    ((place % 65_536) as u16).to_le_bytes()
+    let [low, high, ..] = place.to_le_bytes();
+    [low, high]
 }
 
 // What the bytes of a block would say if they were a head.

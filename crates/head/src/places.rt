@@ -11,6 +11,7 @@ pub(crate) fn are_below(places: &[usize], home: usize) -> bool
 pub(crate) fn are_different(places: &[usize]) -> bool
     ensures { result ≡ none_twice places.now }
 {
+    // Each against those behind it: no iterator gives the rest.
     let mut rest = places;
     while let [first, others @ ..] = rest {
         if others.contains(first) {

@@ -51,6 +51,7 @@ impl Blocks {
         requires { place < length (memory_blocks self.old.memory.items) }
         ensures { memory_blocks self.new.memory.items ≡ slice_set (memory_blocks self.old.memory.items) place block.now }
     {
+        // By a range: no clause says what a slice ends as that `as_chunks_mut` lent.
         let start = place * BLOCK;
         self.memory[start..start + BLOCK].copy_from_slice(block);
     }

@@ -14,6 +14,7 @@ pub(crate) fn parts(memory: Vec<u8>, plan: Vec<u8>) -> Result<(Blocks, Plan), Un
     if !all_entries(&plan) {
         return Err(Unusable { memory, plan });
     }
+    // A match: the plan goes into either answer, so that no two closures can hold it.
     match Blocks::new(memory) {
         Ok(blocks) => Ok((blocks, Plan::new(plan))),
         Err(memory) => Err(Unusable { memory, plan }),

@@ -8,7 +8,7 @@ ghost use Rattle.memdisk.specs.Admission.{Admits};
 use disk::error::{DiskError, Fault, Kind};
 use std::vec::IntoIter;
 
-// The bytes of a plan's entries.
+// The bytes of a plan's entries, as docs/RULES.md gives them.
 const GOOD: u8 = 0;
 
 const BAD: u8 = 1;

@@ -11,7 +11,7 @@ use crate::unusable::Unusable;
 use disk::disk::{BLOCK, BenchDisk, Disk};
 use disk::error::{DiskError, Kind};
 
-// A disk on which every good write settles at once. It is a type of its own, since one with HeldDisk by a const parameter would have room for eight loose writes here too.
+// A disk on which every good write settles at once. It is a type of its own: of one type by its capacity, 8 or 0, the rule, join or settle, would hang on a number, and every contract that names the rule with it.
 #[derive(Drop)]
 pub struct ThroughDisk {
     blocks: Blocks,

@@ -6,7 +6,7 @@ use disk::disk::BenchDisk;
 #[derive(Drop)]
 pub struct Cold<D> {
     pub(crate) disk: D,
-    // whether the last opening was accepted
+    // whether the last opening was accepted: a flag and no second type, since a volume whose opening was refused stays cold and is opened again
     pub(crate) accepted: bool,
 }
 

@@ -17,6 +17,7 @@ pub(crate) fn blank_held(heap: Global, plan: &[u8]) -> Result<HeldDisk, AllocErr
     ensures { IfOk result (λ d. medium_of d.blocks (held_in d.loose) d.plan ≡ blank_disk plan.now) }
 {
     let memory = vec![in heap; 0; BLOCKS * BLOCK]?;
+    // The size and the plan are those of a disk, so that no making is refused.
     let Ok(disk) = HeldDisk::new(memory, Vec::from_slice(heap, plan)?) else {
         unreachable()
     };

@@ -1,5 +1,6 @@
 // Plays the calls of a trace on the journaled cache.
-ghost use Rattle.std.specs.Prelude.{◌≡◌, ◌≤◌, refl};
+ghost use Rattle.std.specs.Prelude.{◌≡◌, ◌≤◌, refl, None};
+ghost use Rattle.trace.specs.Calls.{cut_choice};
 ghost use Rattle.disk.specs.Medium.{join, size};
 ghost use Rattle.journal.specs.Model.{model};
 ghost use Rattle.play.specs.InJournal.{formatted_until, recovered_until, live_from, called, lines_from};
@@ -27,8 +28,9 @@ pub(crate) fn journaled<D: JoiningDisk>(disk: D) -> Live<D>
     Live::new(volume)
 }
 
-// What a call answers that goes on with the cache. After a cut, whoever plays it recovers the volume and answers by the number.
+// What a call answers, which is no cut.
 fn answer_to<D: JoiningDisk>(live: &mut Live<D>, call: TraceCall) -> Result<Answer, PlayError>
+    requires { cut_choice call ≡ None }
     ensures { answered result (model D.Disk.medium live.new) ≡ called (record { effect = join; tries = D.Disk.attempts }) call (model D.Disk.medium live.old) }
 {
     match call {
@@ -61,7 +63,7 @@ fn answer_to<D: JoiningDisk>(live: &mut Live<D>, call: TraceCall) -> Result<Answ
             live.restart(choice);
             Ok(Answer::Restarted)
         }
-        TraceCall::Cut { choice: _ } => Ok(Answer::Opened),
+        TraceCall::Cut { .. } => unreachable!(),
     }
 }
 

@@ -1,5 +1,6 @@
 // Plays the calls of a trace on the ordered cache.
-ghost use Rattle.std.specs.Prelude.{◌≡◌, true, refl};
+ghost use Rattle.std.specs.Prelude.{◌≡◌, true, refl, None};
+ghost use Rattle.trace.specs.Calls.{cut_choice};
 ghost use Rattle.disk.specs.Medium.{join};
 ghost use Rattle.ordered.specs.Model.{model};
 ghost use Rattle.ordered.specs.Opening.{made as made_over};
@@ -51,12 +52,13 @@ fn taken_up<D: BenchDisk, P: Precedence>(mut cold: Cold<D>, order: P) -> Live<D,
     cold.into_live(order)
 }
 
-// What a call answers that goes on with the cache. After a cut, whoever plays it takes the volume up again.
+// What a call answers, which is no cut.
 // The journaled cache's is another function: a trait of the calls of both would state the seven contracts of a cache once more, which is longer than these arms.
 fn answer_to<D: JoiningDisk, P: Precedence>(
     live: &mut Live<D, P>,
     call: TraceCall,
 ) -> Result<Answer, PlayError>
+    requires { cut_choice call ≡ None }
     ensures outcome { answered result (model D.Disk.medium live.new) ≡ called (P.before live.old.order) (record { rule = join; tries = D.Disk.attempts }) call (model D.Disk.medium live.old) }
     ensures order { live.new.order ≡ live.old.order }
 {
@@ -87,7 +89,7 @@ fn answer_to<D: JoiningDisk, P: Precedence>(
             live.restart(choice);
             Ok(Answer::Restarted)
         }
-        TraceCall::Cut { choice: _ } => Ok(Answer::Opened),
+        TraceCall::Cut { .. } => unreachable!(),
     }
 }
 
