@@ -54,6 +54,9 @@ pub enum CacheCall {
     Step,
 }
 
+// No mark lies above this.
+pub const LAST_MARK: u32 = 1_000_000;
+
 // Why a live cache refuses.
 #[derive(Clone, Copy, PartialEq, Eq, Debug)]
 pub enum CacheError {

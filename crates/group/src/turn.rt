@@ -32,6 +32,7 @@ impl Turn {
 }
 
 // From a phase and the disk's answer to the next state. A fault leaves phase and turn.
+// One match of the phase and the disk's answer: the rules want the machine in this form.
 pub fn advance(
     phase: Phase,
     blocks: usize,

@@ -2,7 +2,10 @@
 use Rattle.std.proofs.Common.{◌≡◌, ℕ, suc, ◌+◌, Bool, true, false, cond, not, eqb, ltb, leb, List, [], ◌∷◌, ◌++◌, map, length, is_some as option_is_some, Some, None, Ok, Err, Option, Result, sym, refl, ap, ◌∙◌, subst, add-one}
 use mathlib.Core.Option.{Option as Maybe, some, none}
 use Rattle.std.proofs.Math.Option.{none-ne-some}
-use Rattle.batch.specs.Rows.{write_list}
+use Rattle.std.specs.Option.{option_map}
+use Rattle.batch.specs.declared.entry.Entry.{Entry}
+use Rattle.batch.specs.Options.{maybe}
+use Rattle.batch.specs.Rows.{begun_in, write_list}
 use Rattle.disk.specs.declared.error.Kind.TheVariants as kind
 use Rattle.disk.specs.declared.error.DiskError.{DiskError}
 use Rattle.disk.specs.Medium.{Block, Write, Effect, Medium, passed, cut}
@@ -99,6 +102,13 @@ module _ (device : Device) (v : Live) (place : ℕ) (bytes : Block) where
       ∙ begin_is false false false false false p q r s t
 
 -- ---- finish and withdraw
+
+-- what a take of the open write says, when its answer is known
+pub taken_some : {r : Option Entry} {e : Entry} {o : Maybe Begun} → r ≡ Some e → maybe (option_map begun_in r) ≡ o → some (begun_in e) ≡ o
+taken_some is taken = ap (λ (r : Option Entry). maybe (option_map begun_in r)) (sym is) ∙ taken
+
+pub taken_none : {r : Option Entry} {o : Maybe Begun} → r ≡ None → maybe (option_map begun_in r) ≡ o → none ≡ o
+taken_none is taken = ap (λ (r : Option Entry). maybe (option_map begun_in r)) (sym is) ∙ taken
 
 module _ (device : Device) (v : Live) (ticket : ℕ) (opens : List Begun) (rest : opens ≡ without ticket v.open_writes) where
   pub kept_opens : find ticket v.open_writes ≡ none → opens ≡ v.open_writes

@@ -15,7 +15,7 @@ use group::group::Group;
 use head::head::MOST_PLACES;
 use std::mem;
 
-pub const LAST_MARK: u32 = 1_000_000;
+pub use errors::LAST_MARK;
 
 // No group has a higher number.
 pub const LAST_NUMBER: u32 = 4_294_967_295;
@@ -40,9 +40,7 @@ impl<D: BenchDisk> Live<D> {
         ensures outcome { record { answer = marked result; live = model D.Disk.medium self.new } ≡ does D.Disk.medium D.Disk.rule D.Disk.attempts self.old (begin_call place bytes.now) }
         ensures runs { RunsOn (begin_call place bytes.now) (model D.Disk.medium self.old) (marked result) (model D.Disk.medium self.new) }
     {
-        let Ok(block) = <&[u8; BLOCK]>::try_from(bytes) else {
-            return Err(CacheError::Length);
-        };
+        let block = bytes.as_array::<BLOCK>().ok_or(CacheError::Length)?;
         if place >= self.home {
             return Err(CacheError::Place);
         }
@@ -67,9 +65,7 @@ impl<D: BenchDisk> Live<D> {
         ensures outcome { record { answer = marked result; live = model D.Disk.medium self.new } ≡ does D.Disk.medium D.Disk.rule D.Disk.attempts self.old (finish_call ticket) }
         ensures runs { RunsOn (finish_call ticket) (model D.Disk.medium self.old) (marked result) (model D.Disk.medium self.new) }
     {
-        let Some(entry) = self.opens.take(ticket) else {
-            return Err(CacheError::NoTicket);
-        };
+        let entry = self.opens.take(ticket).ok_or(CacheError::NoTicket)?;
         let finish = self.counter + 1;
         self.collected.collect(entry);
         self.counter = finish;
@@ -81,9 +77,7 @@ impl<D: BenchDisk> Live<D> {
         ensures outcome { record { answer = done result; live = model D.Disk.medium self.new } ≡ does D.Disk.medium D.Disk.rule D.Disk.attempts self.old (withdraw_call ticket) }
         ensures runs { RunsOn (withdraw_call ticket) (model D.Disk.medium self.old) (done result) (model D.Disk.medium self.new) }
     {
-        let Some(_) = self.opens.take(ticket) else {
-            return Err(CacheError::NoTicket);
-        };
+        self.opens.take(ticket).ok_or(CacheError::NoTicket)?;
         Ok(())
     }
 

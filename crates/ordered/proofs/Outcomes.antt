@@ -173,8 +173,8 @@ module _ (precedes : Precedence) (rule : Write → Effect) (tries : ℕ) (c : Ca
 
 -- ---- opening
 
-pub just_made : (n : Medium) {l : List Row} → l ≡ no_rows → ◌≡◌ {A = Cache} (record { medium = n; rows = l; counter = 0; counts = record { begun = 0; withdrawn = 0; home = 0 } }) (made n)
-just_made n l = λ i. record { medium = n; rows = l i; counter = 0; counts = record { begun = 0; withdrawn = 0; home = 0 } }
+pub just_made : (n : Medium) {l : List Row} {k : Counts} → l ≡ no_rows → k ≡ record { begun = 0; withdrawn = 0; home = 0 } → ◌≡◌ {A = Cache} (record { medium = n; rows = l; counter = 0; counts = k }) (made n)
+just_made n l k = λ i. record { medium = n; rows = l i; counter = 0; counts = k i }
 
 pub run_starts : {precedes : Precedence} → Lawful precedes → (n : Medium) {c : Cache} → c ≡ made n → Starts precedes n c
 run_starts {precedes} lawful n {c} e m f =

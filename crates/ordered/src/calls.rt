@@ -12,8 +12,7 @@ use precedence::Precedence;
 use table::held::{Change, Query, Version};
 use table::tally::Tally;
 
-// No mark lies above this. The journaled cache says its own: no crate below both is about marks.
-pub const LAST_MARK: u32 = 1_000_000;
+pub use errors::LAST_MARK;
 
 impl<D: BenchDisk, P: Precedence> Live<D, P> {
     // Begins a write of the place; the answer is its ticket.
@@ -22,18 +21,14 @@ impl<D: BenchDisk, P: Precedence> Live<D, P> {
         ensures order { self.new.order ≡ self.old.order }
         ensures runs { RunsOn (P.before self.old.order) (Begin place bytes.now) (model D.Disk.medium self.old) (marked result) (model D.Disk.medium self.new) }
     {
-        let Ok(block) = <&[u8; BLOCK]>::try_from(bytes) else {
-            return Err(CacheError::Length);
-        };
+        let block = bytes.as_array::<BLOCK>().ok_or(CacheError::Length)?;
         if place >= self.disk.size() {
             return Err(CacheError::Place);
         }
         if self.table.any(Query::OpenAt(place)) {
             return Err(CacheError::PlaceOpen);
         }
-        let Some(row) = self.table.vacant() else {
-            return Err(CacheError::NoRoom);
-        };
+        let row = self.table.vacant().ok_or(CacheError::NoRoom)?;
         if self.counter + self.table.count(Query::Reserving) + 2 > LAST_MARK {
             return Err(CacheError::NoMarks);
         }

@@ -38,11 +38,7 @@ impl<D: BenchDisk> Cold<D> {
             order,
             table: Table::new(),
             counter: 0,
-            counts: Counts {
-                begun: 0,
-                withdrawn: 0,
-                home: 0,
-            },
+            counts: Counts::default(),
         }
     }
 }

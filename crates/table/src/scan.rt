@@ -16,6 +16,7 @@ pub struct Candidate {
 }
 
 // The ready row of lowest begin mark: it waits, and no write in the table precedes it.
+// Two loops left by a label: the rules want the scan in this form.
 pub fn lowest_ready<P: Precedence>(table: &Table, order: &P) -> Option<Candidate>
     ensures value { result ≡ lowest_ready (P.before order.now) table.now.rows }
     ensures found { Lowest (ready (P.before order.now) (in_rows table.now.rows)) table.now.rows result }

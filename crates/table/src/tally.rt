@@ -1,7 +1,7 @@
 // What a cache counts of its writes.
 
 // What the rows do not show: how many writes were begun, and how many have left the table, and how.
-#[derive(Clone, Copy)]
+#[derive(Clone, Copy, Default)]
 pub struct Counts {
     pub begun: u32,
     pub withdrawn: u32,
@@ -9,7 +9,7 @@ pub struct Counts {
 }
 
 // Where the writes stand.
-#[derive(Clone, Copy)]
+#[derive(Clone, Copy, PartialEq, Eq, Debug)]
 pub struct Tally {
     pub begun: u32,
     pub withdrawn: u32,

@@ -1,28 +1,29 @@
-use Rattle.std.proofs.Common.{◌≡◌, ◌+◌, ◌≤◌, true, false, List, [], ◌∷◌, ◌++◌, map, length, not, sym, ap, ◌∙◌, subst, arith, rules}
+use Rattle.std.proofs.Common.{◌≡◌, ◌+◌, ◌≤◌, true, false, List, [], ◌∷◌, ◌++◌, map, length, not, Err, sym, ap, ◌∙◌, subst, arith, rules}
 use Rattle.std.proofs.lemmas.Bool.{ne_eqb}
 use Rattle.std.proofs.lemmas.Bool.Decides.{nat_tests}
 use Rattle.disk.specs.Medium.{Block}
 use Rattle.std.proofs.lemmas.List.{length-map, length_push, map_push}
+use Rattle.errors.specs.declared.CacheError.TheVariants.{Length}
 use Rattle.head.specs.Head.{holds, all_below, none_twice}
 use Rattle.journal_law.specs.Cache.{Begun, begin, place_of, begun_place, different}
 use Rattle.journal_law.proofs.Entries.{room_begin}
 use Rattle.batch.specs.declared.entry.Entry.{Entry}
 use Rattle.batch.specs.Rows.{entries, begun_in, begun_list, write_list}
-use Rattle.journal.specs.Model.{model, met}
+use Rattle.journal.specs.Model.{model, met, marked}
 use Rattle.journal.proofs.Rooms.{begun_places, room_open, below_push, once_push}
 use Rattle.journal.proofs.Outcomes.{runs_by, Long, Far, Taken, Full, Late, begin_0, begin_1, begin_2, begin_3, begin_4, begin_5}
 use Rattle.journal.proofs.live.Live.begin.Goals as goal
 
-pub returns-in_default : goal.returns-in_default
-returns-in_default g c =
+pub returns-in_err-block : goal.returns-in_err-block
+returns-in_err-block g c =
     let s = c.args.self.now in
     let device = met g.D.Disk.medium g.D.Disk.rule g.D.Disk.attempts s in
     let v = model g.D.Disk.medium s in
     let place = c.args.place in
     let bytes = c.args.bytes.now in
     let other : length bytes ≡ 512 → ⊥ = search rules in
-    let long : Long device v place bytes ≡ true = ap not (ne_eqb (length bytes) 512 other) in
-    let e = begin_1 device v place bytes long in
+    let is : c.from_residual.result ≡ Err Length = search rules in
+    let e = ap (λ r. record { answer = marked r; live = v }) is ∙ begin_1 device v place bytes (ap not (ne_eqb (length bytes) 512 other)) in
     record { outcome = e; runs = runs_by device (begin place bytes) v _ e }
 
 pub returns-then-place-self : goal.returns-then-place-self
@@ -141,7 +142,7 @@ returns g c =
     let taken : Taken device v place bytes ≡ false = ap (holds place) (begun_places (entries s.opens)) ∙ sym c.if-holds.ensures in
     let full : Full device v place bytes ≡ false = grind (arith, nat_tests, c.places_with.ensures) in
     let late : Late device v place bytes ≡ false = grind (arith, nat_tests, c.len.ensures, length-map (entries s.opens) begun_in) in
-    let same : c.in-Ok.block.now ≡ bytes = search rules in
+    let same : c.in_ok-block.block.now ≡ bytes = search rules in
     let list = ap (map begun_in) c.push.ensures ∙ map_push begun_in (entries s.opens) c.new.result ∙ ap (λ (e : Entry). begun_list s.opens ++ begun_in e ∷ []) c.new.ensures
     ∙ ap (λ (x : Block). begun_list s.opens ++ record { mark = s.counter + 1; write = record { place = place; bytes = x } } ∷ []) same in
     let e = begin_0 device v place bytes long far taken full late (begun_list c.push.new.self) list in
