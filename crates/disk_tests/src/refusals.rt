@@ -3,9 +3,7 @@ use crate::tools::{fill, first};
 use disk::disk::{BLOCK, Disk};
 use disk::error::{DiskError, Fault, Kind};
 use std::test::Fail;
-use test_tools::disks::{held, through};
-
-const SHORT: usize = 511;
+use test_tools::disks::{SHORT, held, through};
 
 #[test]
 fn length_comes_before_place(rt: HostRuntime) -> Result<(), Fail> {

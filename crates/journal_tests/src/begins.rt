@@ -18,8 +18,7 @@ fn length_then_place_then_open(rt: HostRuntime) -> Result<(), Fail> {
             (Finish(1), Ok(2)),
             (Begin(1, 2), Ok(3)),
         ],
-    )?;
-    Ok(())
+    )
 }
 
 // A place both collected and open counts once, a withdrawn write and the sealed group count not at all.
@@ -48,8 +47,7 @@ fn eight_places_and_no_more(rt: HostRuntime) -> Result<(), Fail> {
             (Begin(9, 1), Ok(12)),
             (Begin(0, 1), Err(4)),
         ],
-    )?;
-    Ok(())
+    )
 }
 
 #[test]
@@ -69,8 +67,7 @@ fn tickets_of_open_writes_only(rt: HostRuntime) -> Result<(), Fail> {
             (Withdraw(3), Ok(0)),
             (Withdraw(3), Err(6)),
         ],
-    )?;
-    Ok(())
+    )
 }
 
 // An open write is not collected. A group under way is refused before an empty collection.
@@ -102,6 +99,5 @@ fn one_group_at_a_time(rt: HostRuntime) -> Result<(), Fail> {
             (Step, Ok(0)),
             (Seal, Ok(2)),
         ],
-    )?;
-    Ok(())
+    )
 }

@@ -30,8 +30,7 @@ fn the_call_is_made_again(rt: HostRuntime) -> Result<(), Fail> {
     };
     assert_eq!(rt; fault_during(CacheCall::Step, cache.step()), Some(flush));
     busy(&mut cache, 7)?;
-    play(&mut cache, &[(Step, Ok(0)), (Read(1), Ok(5))])?;
-    Ok(())
+    play(&mut cache, &[(Step, Ok(0)), (Read(1), Ok(5))])
 }
 
 #[test]
@@ -49,6 +48,5 @@ fn two_retry_layers_below(rt: HostRuntime) -> Result<(), Fail> {
     };
     assert_eq!(rt; fault_during(CacheCall::Step, cache.step()), Some(bad));
     busy(&mut cache, 8)?;
-    play(&mut cache, &[(Step, Ok(0)), (Read(1), Ok(5))])?;
-    Ok(())
+    play(&mut cache, &[(Step, Ok(0)), (Read(1), Ok(5))])
 }

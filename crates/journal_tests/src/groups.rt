@@ -7,21 +7,56 @@ use std::test::Fail;
 use test_tools::disks::{held, through};
 
 // The steps of a group of two before a restart, and those that it takes after: from the first slot, the first home place, or the empty head.
-const RESTARTS: [(u32, u32); 10] = [
-    (0, 10),
-    (1, 10),
-    (2, 10),
-    (3, 10),
-    (4, 10),
-    (5, 5),
-    (6, 5),
-    (7, 5),
-    (8, 2),
-    (9, 2),
+struct Restarted {
+    before: u32,
+    after: u32,
+}
+
+const RESTARTS: [Restarted; 10] = [
+    Restarted {
+        before: 0,
+        after: 10,
+    },
+    Restarted {
+        before: 1,
+        after: 10,
+    },
+    Restarted {
+        before: 2,
+        after: 10,
+    },
+    Restarted {
+        before: 3,
+        after: 10,
+    },
+    Restarted {
+        before: 4,
+        after: 10,
+    },
+    Restarted {
+        before: 5,
+        after: 5,
+    },
+    Restarted {
+        before: 6,
+        after: 5,
+    },
+    Restarted {
+        before: 7,
+        after: 5,
+    },
+    Restarted {
+        before: 8,
+        after: 2,
+    },
+    Restarted {
+        before: 9,
+        after: 2,
+    },
 ];
 
 // The cut of the restart drops all that is loose, and so does the one at the end.
-fn restarted(heap: Global, before: u32, after: u32) -> Result<(), Fail> {
+fn restarted(heap: Global, line: &Restarted) -> Result<(), Fail> {
     let mut cache = live(held(heap, 11, &[])?)?;
     play(
         &mut cache,
@@ -33,57 +68,92 @@ fn restarted(heap: Global, before: u32, after: u32) -> Result<(), Fail> {
             (Seal, Ok(1)),
         ],
     )?;
-    busy(&mut cache, before)?;
+    busy(&mut cache, line.before)?;
     play(&mut cache, &[(Restart(0), Ok(0))])?;
-    busy(&mut cache, after)?;
+    busy(&mut cache, line.after)?;
     play(&mut cache, &[(Step, Ok(0))])?;
     let mut cache = recovered(cache.cut(0), 1)?;
-    play(&mut cache, &[(Read(0), Ok(5)), (Read(1), Ok(6))])?;
-    Ok(())
+    play(&mut cache, &[(Read(0), Ok(5)), (Read(1), Ok(6))])
 }
 
 #[test]
 fn a_restart_in_each_phase(rt: HostRuntime) -> Result<(), Fail> {
-    for (before, after) in &RESTARTS {
-        restarted(rt.alloc(), *before, *after)?;
+    for line in &RESTARTS {
+        restarted(rt.alloc(), line)?;
     }
     Ok(())
 }
 
-// A cut after these steps of group 1: the number recovered, the byte then shown, and the number of the next group.
-const CUTS: [(u32, u8, u32, u32, u32); 5] = [
-    (2, 255, 0, 0, 1),
-    (3, 0, 0, 0, 1),
-    (3, 1, 1, 5, 2),
-    (4, 0, 1, 5, 2),
-    (8, 0, 1, 5, 2),
+// A cut by this choice after these steps of group 1: the number recovered, the byte then shown, and the number of the next group.
+struct Cut {
+    steps: u32,
+    choice: u8,
+    number: u32,
+    shown: u32,
+    next: u32,
+}
+
+const CUTS: [Cut; 5] = [
+    Cut {
+        steps: 2,
+        choice: 255,
+        number: 0,
+        shown: 0,
+        next: 1,
+    },
+    Cut {
+        steps: 3,
+        choice: 0,
+        number: 0,
+        shown: 0,
+        next: 1,
+    },
+    Cut {
+        steps: 3,
+        choice: 1,
+        number: 1,
+        shown: 5,
+        next: 2,
+    },
+    Cut {
+        steps: 4,
+        choice: 0,
+        number: 1,
+        shown: 5,
+        next: 2,
+    },
+    Cut {
+        steps: 8,
+        choice: 0,
+        number: 1,
+        shown: 5,
+        next: 2,
+    },
 ];
 
-fn numbered(heap: Global, line: (u32, u8, u32, u32, u32)) -> Result<(), Fail> {
-    let (steps, choice, number, shown, next) = line;
+fn numbered(heap: Global, cut: &Cut) -> Result<(), Fail> {
     let mut cache = live(held(heap, 10, &[])?)?;
     play(
         &mut cache,
         &[(Begin(0, 5), Ok(1)), (Finish(1), Ok(2)), (Seal, Ok(1))],
     )?;
-    busy(&mut cache, steps)?;
-    let mut cache = recovered(cache.cut(choice), number)?;
+    busy(&mut cache, cut.steps)?;
+    let mut cache = recovered(cache.cut(cut.choice), cut.number)?;
     play(
         &mut cache,
         &[
-            (Read(0), Ok(shown)),
+            (Read(0), Ok(cut.shown)),
             (Begin(0, 6), Ok(1)),
             (Finish(1), Ok(2)),
-            (Seal, Ok(next)),
+            (Seal, Ok(cut.next)),
         ],
-    )?;
-    Ok(())
+    )
 }
 
 #[test]
 fn a_lost_sealing_gives_its_number_back(rt: HostRuntime) -> Result<(), Fail> {
-    for line in &CUTS {
-        numbered(rt.alloc(), *line)?;
+    for cut in &CUTS {
+        numbered(rt.alloc(), cut)?;
     }
     Ok(())
 }
@@ -98,6 +168,5 @@ fn a_settled_head_outlives_the_cut(rt: HostRuntime) -> Result<(), Fail> {
     )?;
     busy(&mut cache, 3)?;
     let mut cache = recovered(cache.cut(0), 1)?;
-    play(&mut cache, &[(Read(0), Ok(5))])?;
-    Ok(())
+    play(&mut cache, &[(Read(0), Ok(5))])
 }

@@ -59,8 +59,7 @@ fn cut_after(heap: Global, cut: &Cut) -> Result<(), Fail> {
     play(
         &mut cache,
         &[(Read(0), Ok(cut.shown[0])), (Read(1), Ok(cut.shown[1]))],
-    )?;
-    Ok(())
+    )
 }
 
 #[test]

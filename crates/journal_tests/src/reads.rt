@@ -1,11 +1,11 @@
 // What a read shows, and what a refused one leaves.
 use crate::tools::Ask::*;
-use crate::tools::{SHORT, busy, live, play, recovered};
+use crate::tools::{busy, live, play, recovered};
 use disk::disk::{BLOCK, BenchDisk, Disk};
 use disk::error::{Fault, Kind};
 use errors::{CacheCall, CacheError};
 use std::test::Fail;
-use test_tools::disks::held;
+use test_tools::disks::{SHORT, held};
 use test_tools::faults::fault_during;
 
 #[test]
@@ -30,8 +30,7 @@ fn collected_then_sealed_then_disk(rt: HostRuntime) -> Result<(), Fail> {
     busy(&mut cache, 8)?;
     play(&mut cache, &[(Step, Ok(0)), (Read(1), Ok(6))])?;
     let mut cache = recovered(cache.cut(0), 1)?;
-    play(&mut cache, &[(Read(1), Ok(5))])?;
-    Ok(())
+    play(&mut cache, &[(Read(1), Ok(5))])
 }
 
 // Of eleven blocks only the home places are shown.
@@ -39,10 +38,10 @@ fn collected_then_sealed_then_disk(rt: HostRuntime) -> Result<(), Fail> {
 fn a_refused_read_leaves_the_buffer(rt: HostRuntime) -> Result<(), Fail> {
     let mut cache = live(held(rt.alloc(), 11, &[0, 0, 0, 0, 1])?)?;
     let mut short = [7; SHORT];
-    assert!(rt; cache.read(2, &mut short) == Err(CacheError::Length));
+    assert_eq!(rt; cache.read(2, &mut short), Err(CacheError::Length));
     assert_eq!(rt; short[0], 7);
     let mut buffer = [7; BLOCK];
-    assert!(rt; cache.read(2, &mut buffer) == Err(CacheError::Place));
+    assert_eq!(rt; cache.read(2, &mut buffer), Err(CacheError::Place));
     let bad = Fault {
         kind: Kind::Read,
         place: 1,

@@ -66,8 +66,7 @@ fn broken_off(heap: Global, plan: &[u8]) -> Result<(), Fail> {
     play(
         &mut cache,
         &[(Read(0), Ok(5)), (Read(1), Ok(6)), (Step, Ok(0))],
-    )?;
-    Ok(())
+    )
 }
 
 #[test]
@@ -97,6 +96,5 @@ fn the_last_number_seals_no_more(rt: HostRuntime) -> Result<(), Fail> {
             (Finish(1), Ok(2)),
             (Seal, Err(10)),
         ],
-    )?;
-    Ok(())
+    )
 }

@@ -5,15 +5,14 @@ use journal_volume::cold::Cold;
 use std::test::Fail;
 use test_tools::checks;
 use test_tools::checks::{check, check_eq};
+use test_tools::disks::SHORT;
 
-pub(crate) const SHORT: usize = 511;
-
-// A format of the volume; a refusal is told by its number.
+// A format of the volume; a refusal is told by its number, so that the numbers of docs/RULES.md are tested too.
 pub(crate) fn format<D: BenchDisk>(cold: &mut Cold<D>) -> Result<(), u8> {
     cold.format().map_err(VolumeError::number)
 }
 
-// A recovery of the volume: the number recovered; a refusal is told by its number.
+// A recovery of the volume: the number recovered; a refusal is told by its number, as that of a format.
 pub(crate) fn recover<D: BenchDisk>(cold: &mut Cold<D>) -> Result<u32, u8> {
     cold.recover().map_err(VolumeError::number)
 }
@@ -36,7 +35,7 @@ pub(crate) fn live<D: BenchDisk + Drop>(disk: D) -> Result<Live<D>, Fail> {
 }
 
 // A call of the cache, as the lines of a test name it. The tests of the ordered cache have a list of their own, with a tally and no seal: a
-// trait that forwards what the two caches share would be longer than what it saves.
+// trait that forwards what the two caches share would be longer than what it saves. A line of a test is data, and no closure.
 #[derive(Clone, Copy)]
 pub(crate) enum Ask {
     // a place, and the byte that fills its block
@@ -76,6 +75,7 @@ fn make<D: BenchDisk>(cache: &mut Live<D>, call: Ask) -> Result<u32, CacheError>
 }
 
 // Makes the calls in turn, and holds each to its answer, or to the number of its refusal.
+// By number, so that the numbers of docs/RULES.md are tested too.
 pub(crate) fn play<D: BenchDisk>(
     cache: &mut Live<D>,
     lines: &[(Ask, Result<u32, u8>)],

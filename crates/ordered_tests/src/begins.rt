@@ -18,8 +18,7 @@ fn length_then_place_then_open(rt: HostRuntime) -> Result<(), Fail> {
             (Finish(1), Ok(2)),
             (Begin(1, 2), Ok(3)),
         ],
-    )?;
-    Ok(())
+    )
 }
 
 // An open place is refused before a full table; a waiting write is held; a withdrawn one leaves its room, not its mark.
@@ -39,8 +38,7 @@ fn thirty_two_writes_and_no_more(rt: HostRuntime) -> Result<(), Fail> {
             (Withdraw(8), Ok(0)),
             (Begin(32, 1), Ok(34)),
         ],
-    )?;
-    Ok(())
+    )
 }
 
 #[test]
@@ -59,6 +57,5 @@ fn tickets_of_open_writes_only(rt: HostRuntime) -> Result<(), Fail> {
             (Withdraw(3), Ok(0)),
             (Withdraw(3), Err(6)),
         ],
-    )?;
-    Ok(())
+    )
 }

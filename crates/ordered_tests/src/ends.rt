@@ -50,8 +50,7 @@ fn cut_by(heap: Global, choice: u8, first: u32, second: u32) -> Result<(), Fail>
             (Read(2), Ok(second)),
             (Begin(1, 9), Ok(1)),
         ],
-    )?;
-    Ok(())
+    )
 }
 
 #[test]

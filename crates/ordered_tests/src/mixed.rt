@@ -62,37 +62,30 @@ impl Disk for Mixed {
     }
 
     fn read(&mut self, place: usize, buffer: &mut [u8]) -> Result<(), DiskError> {
-        if buffer.len() != BLOCK {
-            return Err(DiskError::Length);
-        }
+        let block = buffer.as_mut_array::<BLOCK>().ok_or(DiskError::Length)?;
         if place >= SIZE {
             return Err(DiskError::Place);
         }
-        let block = if place == 0 {
+        *block = if place == 0 {
             self.loose.unwrap_or(self.even)
         } else {
             self.odd
         };
-        buffer.copy_from_slice(&block);
         Ok(())
     }
 
     fn write(&mut self, place: usize, bytes: &[u8]) -> Result<(), DiskError> {
-        if bytes.len() != BLOCK {
-            return Err(DiskError::Length);
-        }
+        let block = bytes.as_array::<BLOCK>().ok_or(DiskError::Length)?;
         if place >= SIZE {
             return Err(DiskError::Place);
         }
-        let mut block = [0; BLOCK];
-        block.copy_from_slice(bytes);
         if place != 0 {
             self.settle();
-            self.odd = block;
+            self.odd = *block;
         } else if self.loose.take().is_some() {
-            self.even = block;
+            self.even = *block;
         } else {
-            self.loose = Some(block);
+            self.loose = Some(*block);
         }
         Ok(())
     }

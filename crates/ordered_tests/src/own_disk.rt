@@ -25,8 +25,7 @@ fn all_come_home_after_a_restart(rt: HostRuntime) -> Result<(), Fail> {
             (Step, Ok(2)),
             (Home, Ok(2)),
         ],
-    )?;
-    Ok(())
+    )
 }
 
 // The cut drops what joined, and keeps what settled.
@@ -48,6 +47,5 @@ fn a_cut_between_the_two(rt: HostRuntime) -> Result<(), Fail> {
     cold.open()?;
     check(cold.is_accepted())?;
     let mut cache = cold.into_live(Overlap);
-    play(&mut cache, &[(Read(0), Ok(5)), (Read(1), Ok(6))])?;
-    Ok(())
+    play(&mut cache, &[(Read(0), Ok(5)), (Read(1), Ok(6))])
 }

@@ -1,12 +1,12 @@
 // What a read shows, and what a refused one leaves.
 use crate::tools::Ask::*;
-use crate::tools::{SHORT, live, play};
+use crate::tools::{live, play};
 use disk::disk::BLOCK;
 use disk::error::{Fault, Kind};
 use errors::{CacheCall, CacheError};
 use precedence::Overlap;
 use std::test::Fail;
-use test_tools::disks::held;
+use test_tools::disks::{SHORT, held};
 use test_tools::faults::fault_during;
 
 // Of two versions the newer is shown.
@@ -25,8 +25,7 @@ fn open_writes_are_not_shown(rt: HostRuntime) -> Result<(), Fail> {
             (Finish(3), Ok(4)),
             (Read(1), Ok(6)),
         ],
-    )?;
-    Ok(())
+    )
 }
 
 #[test]

@@ -27,8 +27,7 @@ fn two_versions_of_a_place_come_home_one_by_one(rt: HostRuntime) -> Result<(), F
             (Step, Ok(2)),
             (Step, Ok(0)),
         ],
-    )?;
-    Ok(())
+    )
 }
 
 #[test]
@@ -46,8 +45,7 @@ fn by_line_an_open_write_blocks(rt: HostRuntime) -> Result<(), Fail> {
             (Step, Ok(2)),
             (Step, Ok(1)),
         ],
-    )?;
-    Ok(())
+    )
 }
 
 // A write is not home before its flush.
@@ -71,8 +69,7 @@ fn a_fault_leaves_the_table(rt: HostRuntime) -> Result<(), Fail> {
     play(
         &mut cache,
         &[(Sent, Ok(1)), (Home, Ok(0)), (Step, Ok(2)), (Home, Ok(1))],
-    )?;
-    Ok(())
+    )
 }
 
 #[test]
@@ -114,6 +111,5 @@ fn two_retry_layers_below(rt: HostRuntime) -> Result<(), Fail> {
         tries: 9,
     };
     assert_eq!(rt; fault_during(CacheCall::Step, cache.step()), Some(bad));
-    play(&mut cache, &[(Step, Ok(1))])?;
-    Ok(())
+    play(&mut cache, &[(Step, Ok(1))])
 }

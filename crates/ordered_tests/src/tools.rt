@@ -5,8 +5,7 @@ use ordered::live::Live;
 use precedence::Precedence;
 use std::test::Fail;
 use test_tools::checks;
-
-pub(crate) const SHORT: usize = 511;
+use test_tools::disks::SHORT;
 
 // A cache over the disk, opened.
 pub(crate) fn live<D: BenchDisk + Drop, P: Precedence + Drop>(
@@ -19,7 +18,7 @@ pub(crate) fn live<D: BenchDisk + Drop, P: Precedence + Drop>(
 }
 
 // A call of the cache, as the lines of a test name it. The tests of the journaled cache have a list of their own, with a seal and no tally: a
-// trait that forwards what the two caches share would be longer than what it saves.
+// trait that forwards what the two caches share would be longer than what it saves. A line of a test is data, and no closure.
 #[derive(Clone, Copy)]
 pub(crate) enum Ask {
     // a place, and the byte that fills its block
@@ -64,6 +63,7 @@ fn make<D: BenchDisk, P: Precedence>(cache: &mut Live<D, P>, call: Ask) -> Resul
 }
 
 // Makes the calls in turn, and holds each to its answer, or to the number of its refusal.
+// By number, so that the numbers of docs/RULES.md are tested too.
 pub(crate) fn play<D: BenchDisk, P: Precedence>(
     cache: &mut Live<D, P>,
     lines: &[(Ask, Result<u32, u8>)],

@@ -35,11 +35,9 @@ pub fn play<C: Copy, R: PartialEq + Debug + Copy, F: FnMut(C) -> R>(
     requires { F.IsAlwaysCallable answer }
     ensures { OnOk result ((last : F) × FoldsTo (AnswersAs F.step R.eq) answer lines.now last) }
 {
-    let mut rest = lines;
-    while let Some((line, tail)) = rest.split_first() {
-        let found = answer(line.0);
-        check_eq(found, line.1)?;
-        rest = tail;
+    for (call, expected) in lines {
+        let found = answer(*call);
+        check_eq(found, *expected)?;
     }
     Ok(())
 }

@@ -9,6 +9,9 @@ use memdisk::through::ThroughDisk;
 use std::alloc::Global;
 use std::test::Fail;
 
+// The length of a buffer that is one byte too short for a block.
+pub const SHORT: usize = 511;
+
 // A held disk of so many zero blocks with this plan.
 pub fn held(heap: Global, blocks: usize, plan: &[u8]) -> Result<HeldDisk, Fail>
     ensures { IfOk result (λ d. medium_of d.blocks (held_in d.loose) d.plan ≡ fresh (replicate (bytes_of blocks) 0) plan.now) }

@@ -86,7 +86,7 @@ fn counts_up_to_their_limits(rt: HostRuntime) -> Result<(), Fail> {
     assert_eq!(rt; trace.push_entry(true), Err(GrowError::Full));
     let mut bytes = trace.encode(heap)?;
     assert!(rt; !is_malformed(heap, &bytes));
-    assert!(rt; bytes.len() == 263);
+    assert_eq!(rt; bytes.len(), 263);
     bytes[3] = 1;
     bytes.push(0)?;
     assert!(rt; is_malformed(heap, &bytes), "257 entries");

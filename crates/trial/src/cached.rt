@@ -5,10 +5,10 @@ use crate::trial_error::TrialError;
 use errors::Progress;
 
 // No drain of the trial is longer.
-const MOST_STEPS: u32 = 32;
+const MOST_STEPS: usize = 32;
 
 // Makes the steps; the answer is how many choices tell cuts apart: each write doubles them, a flush leaves one.
-fn make_steps<R: Route>(cache: &mut R, steps: u32) -> Result<u8, TrialError> {
+fn make_steps<R: Route>(cache: &mut R, steps: usize) -> Result<u8, TrialError> {
     let mut choices = 1u8;
     for _ in 0..steps {
         choices = match cache.go_on()? {
@@ -21,7 +21,7 @@ fn make_steps<R: Route>(cache: &mut R, steps: u32) -> Result<u8, TrialError> {
 }
 
 // Every cut after these steps, each with a cache of its own.
-fn after_steps<R: Route + Drop>(rt: &HostRuntime, steps: u32) -> Result<Count, TrialError> {
+fn after_steps<R: Route + Drop>(rt: &HostRuntime, steps: usize) -> Result<Count, TrialError> {
     let mut cache = R::taken_up(rt.alloc(), &[])?;
     let choices = make_steps(&mut cache, steps)?;
     let mut count = Count::default();
@@ -49,7 +49,7 @@ pub(crate) fn every_cut<R: Route + Drop>(rt: &HostRuntime) -> Result<Count, Tria
 }
 
 // The steps until the cache is idle; a disk's fault does not end them.
-fn drained<R: Route>(cache: &mut R) -> Result<u32, TrialError> {
+fn drained<R: Route>(cache: &mut R) -> Result<usize, TrialError> {
     for steps in 0..MOST_STEPS {
         match cache.go_on() {
             Ok(Progress::Idle) => return Ok(steps),
@@ -66,10 +66,10 @@ pub(crate) fn tell_drain<R: Route + Drop>(
     rt: &HostRuntime,
     title: &str,
     plan: &[u8],
-    faults: u32,
 ) -> Result<(), TrialError> {
     let mut cache = R::taken_up(rt.alloc(), plan)?;
     let steps = drained(&mut cache)?;
+    let faults = plan.iter().filter(|bad| **bad == 1).count();
     let bound = R::bound(faults);
     println!(rt; "  {title}: {steps} steps, bound {bound}")?;
     Ok(())

@@ -114,15 +114,14 @@ fn sum_up(rt: &HostRuntime, count: Count, lesson: &str) -> Result<(), TrialError
 
 fn drains(rt: &HostRuntime) -> Result<(), TrialError> {
     println!(rt; "Longest drains seen, each beside its bound:")?;
-    tell_drain::<OrderedCache<HeldDisk, Overlap>>(rt, "ordered, two writes and no fault", &[], 0)?;
+    tell_drain::<OrderedCache<HeldDisk, Overlap>>(rt, "ordered, two writes and no fault", &[])?;
     tell_drain::<OrderedCache<HeldDisk, Overlap>>(
         rt,
         "ordered, two writes and three faults",
         &ORDERED_FAULTS,
-        3,
     )?;
-    tell_drain::<JournaledCache<HeldDisk>>(rt, "group of two, no fault", &[], 0)?;
-    tell_drain::<JournaledCache<HeldDisk>>(rt, "group of two, three faults", &GROUP_FAULTS, 3)
+    tell_drain::<JournaledCache<HeldDisk>>(rt, "group of two, no fault", &[])?;
+    tell_drain::<JournaledCache<HeldDisk>>(rt, "group of two, three faults", &GROUP_FAULTS)
 }
 
 fn main(rt: HostRuntime) -> Result<(), TrialError> {

@@ -17,10 +17,10 @@ use std::alloc::Global;
 const BLOCKS: usize = 16;
 
 // The writes of a mark.
-const WRITES: u32 = 2;
+const WRITES: usize = 2;
 
 // The flushes and heads of a group.
-const GROUP_CALLS: u32 = 6;
+const GROUP_CALLS: usize = 6;
 
 pub(crate) trait Route {
     // A cache that has taken up the new mark, over a disk with the old one; of the plan's entries some are spent by then.
@@ -32,7 +32,7 @@ pub(crate) trait Route {
     fn seen_after(self, choice: u8) -> Result<Mark, TrialError>;
 
     // The steps that bring all to storage, if this many of them meet a fault.
-    fn bound(faults: u32) -> u32;
+    fn bound(faults: usize) -> usize;
 }
 
 // Has each block of the new mark written in turn: the closure begins and finishes a write of its cache.
@@ -70,7 +70,7 @@ impl Route for OrderedCache<HeldDisk, Overlap> {
         Ok(mark_read(|place, buffer| cache.read(place, buffer))?)
     }
 
-    fn bound(faults: u32) -> u32 {
+    fn bound(faults: usize) -> usize {
         (2 * WRITES).saturating_add(faults)
     }
 }
@@ -102,7 +102,7 @@ impl Route for JournaledCache<HeldDisk> {
         Ok(mark_read(|place, buffer| cache.read(place, buffer))?)
     }
 
-    fn bound(faults: u32) -> u32 {
+    fn bound(faults: usize) -> usize {
         (2 * WRITES + GROUP_CALLS).saturating_add(faults)
     }
 }

@@ -1,7 +1,6 @@
 use narration::told::Told;
 use play::play::play_list;
 use precedence::{Line, Overlap};
-use std::alloc::Global;
 use std::test::Fail;
 use trace::call::TraceCall::{Begin, Cut, Finish, Restart, Seal, Step, Withdraw};
 use trace::call::{Mode, TraceCall};
@@ -11,25 +10,21 @@ use watch::watch::{Watch, deed_of};
 
 // Plays the calls, and holds each told line to the one that is expected.
 fn tells<W: Watch + Drop>(
-    heap: Global,
+    rt: &HostRuntime,
     mode: Mode,
     mut watch: W,
     calls: &[TraceCall],
     story: &[&str],
 ) -> Result<(), Fail> {
-    let lines = play_list(heap, mode, calls)?;
-    if lines.len() != story.len() {
-        return Err(Fail::new("a line for each call"));
-    }
+    let lines = play_list(rt.alloc(), mode, calls)?;
+    assert_eq!(rt; lines.len(), story.len(), "a line for each call");
     for (line, expected) in lines.iter().zip(story.iter()) {
         let told = Told {
             line: *line,
             deed: deed_of(&mut watch, *line),
         };
-        let text = format!(in heap; "{told}")?;
-        if text.as_str() != *expected {
-            return Err(Fail::new(text));
-        }
+        let text = format!(in rt.alloc(); "{told}")?;
+        assert_eq!(rt; text.as_str(), *expected);
     }
     Ok(())
 }
@@ -63,7 +58,7 @@ fn overlapping_writes(rt: HostRuntime) -> Result<(), Fail> {
         "step: idle",
     ];
     tells(
-        rt.alloc(),
+        &rt,
         Mode::Overlap,
         OrderedWatch::new(Overlap),
         &TWO_WRITES,
@@ -87,7 +82,7 @@ fn writes_in_line(rt: HostRuntime) -> Result<(), Fail> {
         "step: flushed",
     ];
     tells(
-        rt.alloc(),
+        &rt,
         Mode::Line,
         OrderedWatch::new(Line),
         &TWO_WRITES,
@@ -119,7 +114,7 @@ fn a_blocked_line(rt: HostRuntime) -> Result<(), Fail> {
         "step: idle",
     ];
     tells(
-        rt.alloc(),
+        &rt,
         Mode::Line,
         OrderedWatch::new(Line),
         &calls,
@@ -167,7 +162,7 @@ fn a_group(rt: HostRuntime) -> Result<(), Fail> {
         "step: idle",
     ];
     tells(
-        rt.alloc(),
+        &rt,
         Mode::Journaled,
         JournalWatch::new(),
         &calls,
