@@ -8,6 +8,7 @@ use std::io::{Read, Write};
 // The text, and one byte more where it is too long.
 fn read_text(rt: &HostRuntime) -> anyhow::Result<Vec<u8>> {
     let mut text = Vec::new(rt.alloc());
+    // The cast loses nothing: a `usize` has no more bits than a `u64`.
     rt.stdin().take(TEXT_MAX as u64 + 1).read_to_end(&mut text)?;
     Ok(text)
 }

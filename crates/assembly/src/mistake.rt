@@ -64,6 +64,7 @@ impl LineError {
     }
 }
 
+// By hand: thiserror's `From` has no contract that a clause could name.
 impl From<Mistake> for LineError {
     ghost from_gives = { λ mistake error. error ≡ line_error.Mistake mistake };
 
@@ -83,6 +84,7 @@ pub enum AssemblyError {
 }
 
 // The error in words, with the line and its mistake.
+// By hand, and so `From` below: thiserror's `From` has no contract, and its `Display` none that a clause could name.
 impl fmt::Display for AssemblyError {
     ghost output = { λ error. Some (error_text error) };
 

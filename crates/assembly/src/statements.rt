@@ -12,6 +12,7 @@ use trace::building::GrowError;
 use trace::trace::Trace;
 
 // Why a call of the trace's refused, with the mistake where the trace is full.
+// No `From`: either call has one list to fill, so its error has one `Full`, and only the caller knows which mistake that is.
 fn refusal(error: GrowError, full: Mistake) -> LineError
     ensures { result ≡ refusal_of error full }
 {
@@ -26,6 +27,7 @@ fn enter(trace: &mut Trace, bytes: &[u8]) -> Result<(), LineError>
     ensures { Comes (entered (words bytes.now) (trace_of trace.old)) result (trace_of trace.new) }
 {
     let mut rest = bytes;
+    // Word by word, and no iterator of words: the clauses here and of `first_word` are by the words of a slice.
     while let Some((word, tail)) = first_word(rest) {
         let bad = entry_named(word).ok_or(Mistake::Arguments)?;
         trace

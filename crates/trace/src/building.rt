@@ -16,6 +16,7 @@ pub enum GrowError {
 }
 
 // What was refused is dropped.
+// By hand: thiserror's `From` has no contract that a clause could name.
 impl<T: Drop> From<AllocFailed<T>> for GrowError {
     ghost from_gives = { λ _ e. e ≡ NoMemory };
 

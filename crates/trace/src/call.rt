@@ -11,11 +11,11 @@ pub const CALL_BYTES: usize = 4;
 #[derive(Clone, Copy, PartialEq, Eq, Debug)]
 pub enum Mode {
     // the ordered cache under the precedence of overlap
-    Overlap,
+    Overlap = 0,
     // the ordered cache under the precedence of line
-    Line,
+    Line = 1,
     // the journaled cache
-    Journaled,
+    Journaled = 2,
 }
 
 // The byte that stands for the mode.
@@ -23,11 +23,7 @@ impl From<Mode> for u8 {
     ghost from_gives = { λ mode byte. byte ≡ mode_byte mode };
 
     fn from(mode: Mode) -> u8 {
-        match mode {
-            Mode::Overlap => 0,
-            Mode::Line => 1,
-            Mode::Journaled => 2,
-        }
+        mode as u8
     }
 }
 

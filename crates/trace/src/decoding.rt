@@ -29,6 +29,7 @@ impl DecodeError {
     }
 }
 
+// By hand, and so the next: thiserror's `From` has no contract that a clause could name.
 impl From<AllocError> for DecodeError {
     ghost from_gives = { λ _ e. e ≡ NoMemory };
 
@@ -54,6 +55,7 @@ fn calls(heap: Global, bytes: &[u8]) -> Result<Vec<TraceCall>, DecodeError>
         return Err(DecodeError::Malformed);
     }
     let mut calls = Vec::new(heap);
+    // A `for` with `?`: the clause says which item is refused.
     for code in coded {
         calls.push(TraceCall::try_from(*code)?)?;
     }

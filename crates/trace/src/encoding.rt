@@ -26,6 +26,7 @@ impl Trace {
         ensures value { IfOk result (λ v. v.items ≡ encoded (trace_of self.now)) }
         ensures read_back { IfOk result (λ v. decoded v.items ≡ Some (trace_of self.now)) }
     {
+        // Neither cast loses anything: there are at most 256 entries and 1,000 calls, the type's invariant.
         let options = [OPTIONS, self.mode.into(), self.retry.into()];
         let mut bytes = Vec::from_slice(heap, &options)?;
         bytes.extend_from_slice(&(self.plan.len() as u16).to_le_bytes())?;

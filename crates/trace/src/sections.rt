@@ -39,6 +39,7 @@ pub(crate) fn split(bytes: &[u8]) -> Option<Sections<'_>>
     let [OPTIONS, mode, retry, rest @ ..] = bytes else {
         return None;
     };
+    // By `ok`: none of the parts has another refusal; `decode` names it once.
     let mode = Mode::try_from(*mode).ok()?;
     let retry = flag_from_byte(*retry)?;
     let (plan, rest) = section(rest, PLAN_MAX, 1)?;
@@ -52,6 +53,7 @@ pub(crate) fn split(bytes: &[u8]) -> Option<Sections<'_>>
 }
 
 // Whether each byte is an entry of a plan, 0 or 1.
+// memdisk has the same test: neither crate stands on the other.
 pub(crate) fn are_entries(bytes: &[u8]) -> bool
     ensures { result ≡ all_entries bytes.now }
 {
