@@ -1,6 +1,7 @@
 use narration::told::Told;
 use play::play::play_list;
 use precedence::{Line, Overlap};
+use std::alloc::Global;
 use std::test::Fail;
 use trace::call::TraceCall::{Begin, Cut, Finish, Restart, Seal, Step, Withdraw};
 use trace::call::{Mode, TraceCall};
@@ -10,21 +11,25 @@ use watch::watch::{Watch, deed_of};
 
 // Plays the calls, and holds each told line to the one that is expected.
 fn tells<W: Watch + Drop>(
-    rt: &HostRuntime,
+    heap: Global,
     mode: Mode,
     mut watch: W,
     calls: &[TraceCall],
     story: &[&str],
 ) -> Result<(), Fail> {
-    let lines = play_list(rt.alloc(), mode, calls)?;
-    assert_eq!(rt; lines.len(), story.len(), "a line for each call");
+    let lines = play_list(heap, mode, calls)?;
+    if lines.len() != story.len() {
+        return Err(Fail::new("a line for each call"));
+    }
     for (line, expected) in lines.iter().zip(story.iter()) {
         let told = Told {
             line: *line,
             deed: deed_of(&mut watch, *line),
         };
-        let text = format!(in rt.alloc(); "{told}")?;
-        assert_eq!(rt; text.as_str(), *expected);
+        let text = format!(in heap; "{told}")?;
+        if text.as_str() != *expected {
+            return Err(Fail::new(text));
+        }
     }
     Ok(())
 }
@@ -58,7 +63,7 @@ fn overlapping_writes(rt: HostRuntime) -> Result<(), Fail> {
         "step: idle",
     ];
     tells(
-        &rt,
+        rt.alloc(),
         Mode::Overlap,
         OrderedWatch::new(Overlap),
         &TWO_WRITES,
@@ -82,7 +87,7 @@ fn writes_in_line(rt: HostRuntime) -> Result<(), Fail> {
         "step: flushed",
     ];
     tells(
-        &rt,
+        rt.alloc(),
         Mode::Line,
         OrderedWatch::new(Line),
         &TWO_WRITES,
@@ -114,7 +119,7 @@ fn a_blocked_line(rt: HostRuntime) -> Result<(), Fail> {
         "step: idle",
     ];
     tells(
-        &rt,
+        rt.alloc(),
         Mode::Line,
         OrderedWatch::new(Line),
         &calls,
@@ -162,7 +167,7 @@ fn a_group(rt: HostRuntime) -> Result<(), Fail> {
         "step: idle",
     ];
     tells(
-        &rt,
+        rt.alloc(),
         Mode::Journaled,
         JournalWatch::new(),
         &calls,
