@@ -92,6 +92,7 @@ impl<P: Precedence> Watch for OrderedWatch<P> {
 
     fn note(&mut self, call: TraceCall, answer: Answer) -> Option<Deed> {
         match call {
+            // The mark by the answer's value: by a match of the call with its answer, the definitions would need a clause for each other answer too.
             TraceCall::Begin { place, fill } => {
                 self.begun(usize::from(place), fill, answer.value());
             }
