@@ -36,17 +36,21 @@ deed_text (deed.Place place) = codes "place " ++ decimal place
 deed_text (deed.Slot slot) = codes "slot " ++ decimal slot
 deed_text deed.Head = codes "the head"
 deed_text deed.EmptyHead = codes "the empty head"
-deed_text deed.Unseen = codes "a block"
+
+-- a step that wrote, with what it wrote, if that is known
+abbrev pub wrote_text : Option Deed → List ℕ
+wrote_text None = codes "wrote a block"
+wrote_text (Some d) = codes "wrote " ++ deed_text d
 
 -- what a step did
-abbrev pub step_text : Progress → Deed → List ℕ
+abbrev pub step_text : Progress → Option Deed → List ℕ
 step_text progress.Idle d = codes "idle"
-step_text progress.Written d = codes "wrote " ++ deed_text d
+step_text progress.Written d = wrote_text d
 step_text progress.Flushed d = codes "flushed"
 step_text progress.Blocked d = codes "blocked"
 
 -- what an accepted call answered
-abbrev pub accepted_text : Answer → Deed → List ℕ
+abbrev pub accepted_text : Answer → Option Deed → List ℕ
 accepted_text (answer.Ticket n) d = codes "ticket " ++ decimal n
 accepted_text (answer.Mark n) d = codes "mark " ++ decimal n
 accepted_text answer.Withdrawn d = codes "gone"
@@ -91,10 +95,10 @@ refused_as (Some f) e = codes "failed after " ++ (decimal f.tries ++ codes " tri
 abbrev pub refused_text : PlayError → List ℕ
 refused_text e = refused_as (play_fault e) e
 
-abbrev pub answer_text : Result Answer PlayError → Deed → List ℕ
+abbrev pub answer_text : Result Answer PlayError → Option Deed → List ℕ
 answer_text (Ok a) d = accepted_text a d
 answer_text (Err e) d = refused_text e
 
 -- a call and what became of it
-abbrev pub told_text : Line → Deed → List ℕ
+abbrev pub told_text : Line → Option Deed → List ℕ
 told_text l d = asked_text l.call ++ (codes ": " ++ answer_text l.answer d)

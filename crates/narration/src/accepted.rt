@@ -10,8 +10,8 @@ use std::fmt;
 #[derive(Clone, Copy)]
 pub(crate) struct Accepted {
     pub answer: Answer,
-    // what a step wrote
-    pub deed: Deed,
+    // what a step wrote, if that is known
+    pub deed: Option<Deed>,
 }
 
 impl fmt::Display for Accepted {
@@ -24,10 +24,10 @@ impl fmt::Display for Accepted {
             Answer::Withdrawn => write!(f, "gone"),
             Answer::FirstByte(byte) => write!(f, "first byte {byte}"),
             Answer::Step(Progress::Idle) => write!(f, "idle"),
-            Answer::Step(Progress::Written) => {
-                let deed = self.deed;
-                write!(f, "wrote {deed}")
-            }
+            Answer::Step(Progress::Written) => match self.deed {
+                Some(deed) => write!(f, "wrote {deed}"),
+                None => write!(f, "wrote a block"),
+            },
             Answer::Step(Progress::Flushed) => write!(f, "flushed"),
             Answer::Step(Progress::Blocked) => write!(f, "blocked"),
             Answer::Group(number) => write!(f, "group {number}"),

@@ -14,8 +14,6 @@ pub enum Deed {
     Head,
     // the head that names none
     EmptyHead,
-    // nobody watched
-    Unseen,
 }
 
 impl fmt::Display for Deed {
@@ -27,7 +25,6 @@ impl fmt::Display for Deed {
             Deed::Slot(slot) => write!(f, "slot {slot}"),
             Deed::Head => write!(f, "the head"),
             Deed::EmptyHead => write!(f, "the empty head"),
-            Deed::Unseen => write!(f, "a block"),
         }
     }
 }

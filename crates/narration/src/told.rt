@@ -13,7 +13,7 @@ use std::fmt;
 pub struct Told {
     pub line: Line,
     // what the call wrote, if it is a step that wrote
-    pub deed: Deed,
+    pub deed: Option<Deed>,
 }
 
 impl fmt::Display for Told {

@@ -53,19 +53,19 @@ abbrev pub phase_after : ℕ → Option Phase → Option Phase
 phase_after blocks None = None
 phase_after blocks (Some p) = phase_in (next blocks p)
 
--- what the call of a phase writes
-abbrev pub phase_deed : List Write → Phase → Deed
-phase_deed group (phase.Slot i) = deed.Slot (i + 1)
-phase_deed group phase.SlotsFlush = deed.Unseen
-phase_deed group phase.Head = deed.Head
-phase_deed group phase.HeadFlush = deed.Unseen
-phase_deed group (phase.Home i) = deed.Place (nth group i).place
-phase_deed group phase.HomesFlush = deed.Unseen
-phase_deed group phase.Empty = deed.EmptyHead
-phase_deed group phase.EmptyFlush = deed.Unseen
+-- what the call of a phase writes, if it writes
+abbrev pub phase_deed : List Write → Phase → Option Deed
+phase_deed group (phase.Slot i) = Some (deed.Slot (i + 1))
+phase_deed group phase.SlotsFlush = None
+phase_deed group phase.Head = Some deed.Head
+phase_deed group phase.HeadFlush = None
+phase_deed group (phase.Home i) = Some (deed.Place (nth group i).place)
+phase_deed group phase.HomesFlush = None
+phase_deed group phase.Empty = Some deed.EmptyHead
+phase_deed group phase.EmptyFlush = None
 
-abbrev pub step_deed : List Write → Option Phase → Deed
-step_deed group None = deed.Unseen
+abbrev pub step_deed : List Write → Option Phase → Option Deed
+step_deed group None = None
 step_deed group (Some p) = phase_deed group p
 
 -- where a restart goes back to
@@ -106,13 +106,13 @@ followed_after call.Seal a f = sealed f
 followed_after (call.Restart choice) a f = in_phase f (phase_restarted f.phase)
 followed_after (call.Cut choice) a f = unfollowed
 
--- what it wrote
-abbrev pub deed_in_journal : TraceCall → Followed → Deed
-deed_in_journal (call.Begin place fill) f = deed.Unseen
-deed_in_journal (call.Finish ticket) f = deed.Unseen
-deed_in_journal (call.Withdraw ticket) f = deed.Unseen
-deed_in_journal (call.Read place) f = deed.Unseen
+-- what it wrote, if it wrote
+abbrev pub deed_in_journal : TraceCall → Followed → Option Deed
+deed_in_journal (call.Begin place fill) f = None
+deed_in_journal (call.Finish ticket) f = None
+deed_in_journal (call.Withdraw ticket) f = None
+deed_in_journal (call.Read place) f = None
 deed_in_journal call.Step f = step_deed f.group f.phase
-deed_in_journal call.Seal f = deed.Unseen
-deed_in_journal (call.Restart choice) f = deed.Unseen
-deed_in_journal (call.Cut choice) f = deed.Unseen
+deed_in_journal call.Seal f = None
+deed_in_journal (call.Restart choice) f = None
+deed_in_journal (call.Cut choice) f = None

@@ -31,9 +31,9 @@ abbrev pub sent_rows : Option Candidate → List Row → List Row
 sent_rows None rows = rows
 sent_rows (Some n) rows = mark_sent rows n.row
 
-abbrev pub written_place : Option Candidate → List Row → Deed
-written_place None rows = deed.Unseen
-written_place (Some n) rows = deed.Place (stamp_of (slice_index_or rows n.row None)).place
+abbrev pub written_place : Option Candidate → List Row → Option Deed
+written_place None rows = None
+written_place (Some n) rows = Some (deed.Place (stamp_of (slice_index_or rows n.row None)).place)
 
 -- the rows after a step that did this
 abbrev pub stepped_rows : Precedence → Progress → List Row → List Row
@@ -42,11 +42,11 @@ stepped_rows precedes progress.Written rows = sent_rows (lowest_ready precedes r
 stepped_rows precedes progress.Flushed rows = leave (change bring_home rows)
 stepped_rows precedes progress.Blocked rows = rows
 
-abbrev pub stepped_deed : Precedence → Progress → List Row → Deed
-stepped_deed precedes progress.Idle rows = deed.Unseen
+abbrev pub stepped_deed : Precedence → Progress → List Row → Option Deed
+stepped_deed precedes progress.Idle rows = None
 stepped_deed precedes progress.Written rows = written_place (lowest_ready precedes rows) rows
-stepped_deed precedes progress.Flushed rows = deed.Unseen
-stepped_deed precedes progress.Blocked rows = deed.Unseen
+stepped_deed precedes progress.Flushed rows = None
+stepped_deed precedes progress.Blocked rows = None
 
 -- the rows after an accepted call with this answer
 abbrev pub rows_after : Precedence → TraceCall → Answer → List Row → List Row
@@ -59,13 +59,13 @@ rows_after precedes call.Seal a rows = rows
 rows_after precedes (call.Restart choice) a rows = change wait_again rows
 rows_after precedes (call.Cut choice) a rows = no_rows
 
--- what it wrote
-abbrev pub deed_in_order : Precedence → TraceCall → Answer → List Row → Deed
-deed_in_order precedes (call.Begin place fill) a rows = deed.Unseen
-deed_in_order precedes (call.Finish ticket) a rows = deed.Unseen
-deed_in_order precedes (call.Withdraw ticket) a rows = deed.Unseen
-deed_in_order precedes (call.Read place) a rows = deed.Unseen
+-- what it wrote, if it wrote
+abbrev pub deed_in_order : Precedence → TraceCall → Answer → List Row → Option Deed
+deed_in_order precedes (call.Begin place fill) a rows = None
+deed_in_order precedes (call.Finish ticket) a rows = None
+deed_in_order precedes (call.Withdraw ticket) a rows = None
+deed_in_order precedes (call.Read place) a rows = None
 deed_in_order precedes call.Step a rows = stepped_deed precedes (step_in a) rows
-deed_in_order precedes call.Seal a rows = deed.Unseen
-deed_in_order precedes (call.Restart choice) a rows = deed.Unseen
-deed_in_order precedes (call.Cut choice) a rows = deed.Unseen
+deed_in_order precedes call.Seal a rows = None
+deed_in_order precedes (call.Restart choice) a rows = None
+deed_in_order precedes (call.Cut choice) a rows = None

@@ -44,19 +44,17 @@ fn has_room(collected: &Batch, place: usize) -> bool
     collected.holds(place) || collected.len() < MOST_PLACES
 }
 
-// What the call of the phase writes.
-fn deed(group: &Batch, phase: Phase) -> Deed
+// What the call of the phase writes, if it writes.
+fn deed(group: &Batch, phase: Phase) -> Option<Deed>
     requires { in_turn phase (length (entries group.now)) ≡ true }
     ensures { result ≡ phase_deed (write_list group.now) phase }
 {
     match phase {
-        Phase::Slot(i) => Deed::Slot(i + 1),
-        Phase::Head => Deed::Head,
-        Phase::Home(i) => Deed::Place(group.entry(i).place),
-        Phase::Empty => Deed::EmptyHead,
-        Phase::SlotsFlush | Phase::HeadFlush | Phase::HomesFlush | Phase::EmptyFlush => {
-            Deed::Unseen
-        }
+        Phase::Slot(i) => Some(Deed::Slot(i + 1)),
+        Phase::Head => Some(Deed::Head),
+        Phase::Home(i) => Some(Deed::Place(group.entry(i).place)),
+        Phase::Empty => Some(Deed::EmptyHead),
+        Phase::SlotsFlush | Phase::HeadFlush | Phase::HomesFlush | Phase::EmptyFlush => None,
     }
 }
 
@@ -98,13 +96,11 @@ impl JournalWatch {
     }
 
     // A step made the call of its phase, if a group is under way.
-    fn stepped(&mut self) -> Deed
+    fn stepped(&mut self) -> Option<Deed>
         ensures told { result ≡ step_deed self.old.group self.old.phase }
         ensures after { self.new ≡ in_phase self.old (phase_after (length self.old.group) self.old.phase) }
     {
-        let Some(phase) = self.phase else {
-            return Deed::Unseen;
-        };
+        let phase = self.phase?;
         let deed = deed(&self.group, phase);
         if let Ok(turn) = advance(phase, self.group.len(), Ok(())) {
             self.phase = turn.phase;
@@ -136,8 +132,9 @@ impl Watch for JournalWatch {
 
     ghost moves = { λ w call answer after. after ≡ followed_after call answer w };
 
-    fn note(&mut self, call: TraceCall, answer: Answer) -> Deed {
+    fn note(&mut self, call: TraceCall, answer: Answer) -> Option<Deed> {
         match call {
+            // The mark by the answer's value: by a match of the call with its answer, the definitions would need a clause for each other answer too.
             TraceCall::Begin { place, fill } => {
                 self.begun(usize::from(place), fill, answer.value());
             }
@@ -149,6 +146,6 @@ impl Watch for JournalWatch {
             TraceCall::Cut { choice: _ } => *self = JournalWatch::new(),
             TraceCall::Read { place: _ } => {}
         }
-        Deed::Unseen
+        None
     }
 }

@@ -59,19 +59,17 @@ impl<P: Precedence> OrderedWatch<P> {
     }
 
     // Sends the row that the cache's step has sent.
-    fn sent(&mut self) -> Deed
+    fn sent(&mut self) -> Option<Deed>
         ensures told { result ≡ written_place (lowest_ready (P.before self.old.order) self.old.rows) self.old.rows }
         ensures after { self.new ≡ with_rows self.old (sent_rows (lowest_ready (P.before self.old.order) self.old.rows) self.old.rows) }
     {
-        let Some(ready) = lowest_ready(&self.table, &self.order) else {
-            return Deed::Unseen;
-        };
+        let ready = lowest_ready(&self.table, &self.order)?;
         let stamp = self.table.stamp(ready.row);
         self.table.mark_sent(ready.row);
-        Deed::Place(stamp.place)
+        Some(Deed::Place(stamp.place))
     }
 
-    fn stepped(&mut self, progress: Progress) -> Deed
+    fn stepped(&mut self, progress: Progress) -> Option<Deed>
         ensures told { result ≡ stepped_deed (P.before self.old.order) progress self.old.rows }
         ensures after { self.new ≡ with_rows self.old (stepped_rows (P.before self.old.order) progress self.old.rows) }
     {
@@ -83,7 +81,7 @@ impl<P: Precedence> OrderedWatch<P> {
             }
             Progress::Idle | Progress::Blocked => {}
         }
-        Deed::Unseen
+        None
     }
 }
 
@@ -92,8 +90,9 @@ impl<P: Precedence> Watch for OrderedWatch<P> {
 
     ghost moves = { λ w call answer after. after ≡ with_rows w (rows_after (P.Precedence.before w.order) call answer w.rows) };
 
-    fn note(&mut self, call: TraceCall, answer: Answer) -> Deed {
+    fn note(&mut self, call: TraceCall, answer: Answer) -> Option<Deed> {
         match call {
+            // The mark by the answer's value: by a match of the call with its answer, the definitions would need a clause for each other answer too.
             TraceCall::Begin { place, fill } => {
                 self.begun(usize::from(place), fill, answer.value());
             }
@@ -111,6 +110,6 @@ impl<P: Precedence> Watch for OrderedWatch<P> {
             TraceCall::Cut { choice: _ } => self.table = Table::new(),
             TraceCall::Read { place: _ } | TraceCall::Seal => {}
         }
-        Deed::Unseen
+        None
     }
 }
