@@ -11,11 +11,10 @@ use batch::entry::Entry;
 use batch::rows::Batch;
 use disk::disk::{BLOCK, BenchDisk};
 use errors::CacheError;
+pub use errors::LAST_MARK;
 use group::group::Group;
 use head::head::MOST_PLACES;
 use std::mem;
-
-pub use errors::LAST_MARK;
 
 // No group has a higher number.
 pub const LAST_NUMBER: u32 = 4_294_967_295;

@@ -8,11 +8,10 @@ ghost use Rattle.ordered.specs.Model.{model, gives, marked, accepted};
 use crate::live::Live;
 use disk::disk::{BLOCK, BenchDisk};
 use errors::CacheError;
+pub use errors::LAST_MARK;
 use precedence::Precedence;
 use table::held::{Change, Query, Version};
 use table::tally::Tally;
-
-pub use errors::LAST_MARK;
 
 impl<D: BenchDisk, P: Precedence> Live<D, P> {
     // Begins a write of the place; the answer is its ticket.
