@@ -7,56 +7,56 @@ use std::test::Fail;
 use test_tools::disks::{held, through};
 
 // The steps of a group of two before a restart, and those that it takes after: from the first slot, the first home place, or the empty head.
-struct Restarted {
+struct Restart {
     before: u32,
     after: u32,
 }
 
-const RESTARTS: [Restarted; 10] = [
-    Restarted {
+const RESTARTS: [Restart; 10] = [
+    Restart {
         before: 0,
         after: 10,
     },
-    Restarted {
+    Restart {
         before: 1,
         after: 10,
     },
-    Restarted {
+    Restart {
         before: 2,
         after: 10,
     },
-    Restarted {
+    Restart {
         before: 3,
         after: 10,
     },
-    Restarted {
+    Restart {
         before: 4,
         after: 10,
     },
-    Restarted {
+    Restart {
         before: 5,
         after: 5,
     },
-    Restarted {
+    Restart {
         before: 6,
         after: 5,
     },
-    Restarted {
+    Restart {
         before: 7,
         after: 5,
     },
-    Restarted {
+    Restart {
         before: 8,
         after: 2,
     },
-    Restarted {
+    Restart {
         before: 9,
         after: 2,
     },
 ];
 
 // The cut of the restart drops all that is loose, and so does the one at the end.
-fn restarted(heap: Global, line: &Restarted) -> Result<(), Fail> {
+fn restarted(heap: Global, line: &Restart) -> Result<(), Fail> {
     let mut cache = live(held(heap, 11, &[])?)?;
     play(
         &mut cache,
