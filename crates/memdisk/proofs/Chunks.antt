@@ -1,10 +1,20 @@
 -- What a block-wise read and write of memory does to its blocks.
-use Rattle.std.specs.Prelude.{◌≡◌, ℕ, zero, suc, ◌+◌, ◌*◌, ◌<◌, ◌≤◌, List, ◌∷◌, ◌++◌, length, take, drop, slice_set}
+use Rattle.std.specs.Prelude.{◌≡◌, ℕ, zero, suc, ◌+◌, ◌*◌, ◌<◌, ◌≤◌, not, List, [], ◌∷◌, ◌++◌, map, length, take, drop, ◌==◌, slice_index, slice_index_or, slice_set, refl}
 use Rattle.std.proofs.Common.{sym, ap, ◌∙◌, arith}
 use borrow.Rule.Slice.PartMut.{put_mid}
-use Rattle.std.proofs.lemmas.List.{length-take, length-drop, take_at, drop_at, drop-drop, drop-append-le, drop-take, length-append}
+use Rattle.std.proofs.lemmas.List.{length-take, length-drop, take_at, drop_at, drop-drop, drop-append-le, drop-take, drop_more, drop_all, length-append}
+use Rattle.std.proofs.lemmas.Bool.Decides.{nat_tests}
 use Rattle.std.proofs.lemmas.Slice.{take-put_mid_below}
-use Rattle.memdisk.specs.Memory.{blocks_in}
+use Rattle.memdisk.specs.Memory.{blocks_in, entry, entries, is_bad}
+
+-- the block of a place
+pub get_d_blocks : (n i : ℕ) (xs : List ℕ) → i < n → slice_index_or (blocks_in n xs) i [] ≡ take 512 (drop (i * 512) xs)
+unfolding blocks_in
+get_d_blocks zero i xs h = absurd (omega arith)
+get_d_blocks (suc n) zero xs h = refl
+get_d_blocks (suc n) (suc i) xs h =
+    let at : 512 + i * 512 ≡ suc i * 512 = omega arith in
+    get_d_blocks n i (drop 512 xs) (omega arith) ∙ ap (take 512) (drop-drop (i * 512) 512 xs ∙ ap (λ k. drop k xs) at)
 
 drop_put_mid_block : (a : ℕ) (xs b : List ℕ) → 512 + a ≤ length xs → drop 512 (put_mid (512 + a) 512 xs b) ≡ put_mid a 512 (drop 512 xs) b
 drop_put_mid_block a xs b h =
@@ -27,6 +37,17 @@ set_blocks (suc n) (suc i) xs b h e w =
     ap (λ y. y ∷ blocks_in n (drop 512 (put_mid (suc i * 512) 512 xs b))) (take-put_mid_below (suc i * 512) 512 xs b 512 (omega arith) (omega arith)) ∙
     ap (λ y. take 512 xs ∷ y) (ap (blocks_in n) moved ∙ sym (set_blocks n i (drop 512 xs) b (omega arith) e rest))
     )
+
+-- the plan past its end, and at an entry
+pub entries_none : (bytes : List ℕ) (taken : ℕ) → length bytes ≤ taken → entries (drop taken bytes) ≡ []
+entries_none bytes taken h = ap (map entry) (drop_all taken bytes h)
+
+pub entries_some : (bytes : List ℕ) (taken : ℕ) → taken < length bytes → entries (drop taken bytes) ≡ entry (slice_index bytes taken) ∷ entries (drop (taken + 1) bytes)
+entries_some bytes taken h = ap (map entry) (drop_more bytes taken 0 h)
+
+pub bad_not_good : (n : ℕ) → not (n == 0) ≡ is_bad (entry n)
+bad_not_good zero = refl
+bad_not_good (suc n) = grind (arith, nat_tests)
 
 pub length_put_mid_block : (i : ℕ) (xs b : List ℕ) → i * 512 + 512 ≤ length xs → length b ≡ 512 → length (put_mid (i * 512) 512 xs b) ≡ length xs
 length_put_mid_block i xs b h e = simp (length-append, length-take, length-drop) (omega arith)

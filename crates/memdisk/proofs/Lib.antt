@@ -1,3 +1,4 @@
 pub mod Chunks
 pub mod Lays
 pub mod Fates
+pub mod Soundness

@@ -1,5 +1,5 @@
 -- Blocks that lie one after another in memory, and a plan given as bytes.
-use Rattle.std.specs.Prelude.{ℕ, zero, suc, ◌*◌, ◌/◌, ◌%◌, Bool, false, cond, List, length, map, ◌==◌, nat_le, nat_lt}
+use Rattle.std.specs.Prelude.{ℕ, zero, suc, ◌*◌, ◌/◌, ◌%◌, Bool, true, false, cond, List, length, map, ◌==◌, nat_le, nat_lt}
 use Rattle.std.specs.List.{list_all}
 use Rattle.std.specs.Simd.{first_chunks}
 use Rattle.disk.specs.Medium.{Block, Entry, good, bad}
@@ -23,6 +23,10 @@ entry (suc n) = bad
 -- the plan of these bytes
 abbrev pub entries : List ℕ → List Entry
 entries bytes = map entry bytes
+
+abbrev pub is_bad : Entry → Bool
+is_bad good = false
+is_bad bad = true
 
 -- no byte of a plan is above 1
 abbrev pub all_entries : List ℕ → Bool

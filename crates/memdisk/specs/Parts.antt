@@ -1,11 +1,11 @@
 -- The medium of a disk that is made of blocks in memory, loose writes and a plan.
-use Rattle.std.specs.Prelude.{ℕ, List, [], map, vec_items}
+use Rattle.std.specs.Prelude.{ℕ, List, [], map, take, vec_items}
 use Rattle.std.specs.List.{All}
 use Rattle.std.specs.Vec.Iter.{into_iter_items}
-use Rattle.arrayvec.specs.ArrayVec.{ArrayVec}
 use Rattle.disk.specs.Medium.{Block, Write, Entry, Medium, Fitting}
 use Rattle.memdisk.specs.declared.blocks.Blocks.{Blocks}
 use Rattle.memdisk.specs.declared.loose.LooseWrite.{LooseWrite}
+use Rattle.memdisk.specs.declared.loose.LooseWrites.{LooseWrites}
 use Rattle.memdisk.specs.declared.plan.Plan.{Plan}
 use Rattle.memdisk.specs.Memory.{memory_blocks, entries}
 
@@ -18,9 +18,9 @@ as_write w = record { place = w.place; bytes = w.bytes }
 abbrev pub writes_of : List LooseWrite → List Write
 writes_of ws = map as_write ws
 
--- the writes that are loose
-abbrev pub held_in : ArrayVec LooseWrite → List LooseWrite
-held_in l = l.items
+-- the writes of the array that are held
+abbrev pub held_in : LooseWrites → List LooseWrite
+held_in l = take l.count l.writes
 
 -- what an element past the end reads as
 abbrev pub no_write : LooseWrite

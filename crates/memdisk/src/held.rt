@@ -1,5 +1,4 @@
-ghost use Rattle.std.specs.Prelude.{◌≡◌, ◌≤◌, true, false, length, MatchResult, refl};
-ghost use Rattle.arrayvec.specs.ArrayVec.{array_vec_len};
+ghost use Rattle.std.specs.Prelude.{◌≡◌, true, false, length, MatchResult, refl};
 ghost use Rattle.disk.specs.Medium.{join};
 ghost use Rattle.memdisk.specs.Making.{usable, fresh, Holds};
 ghost use Rattle.memdisk.specs.Parts.{medium_of, held_in, blocks_of, EachFits};
@@ -7,11 +6,10 @@ ghost use Rattle.memdisk.specs.Soundness.{parts_sound};
 
 use crate::blocks::Blocks;
 use crate::laying::{current, lay_all, lay_standing};
-use crate::loose::LooseWrite;
+use crate::loose::{LooseWrite, LooseWrites};
 use crate::parts::parts;
 use crate::plan::Plan;
 use crate::unusable::Unusable;
-use arrayvec::ArrayVec;
 use disk::disk::{BLOCK, BenchDisk, Disk, JoiningDisk, LOOSE_MAX};
 use disk::error::{DiskError, Kind};
 
@@ -19,10 +17,8 @@ use disk::error::{DiskError, Kind};
 #[derive(Drop)]
 pub struct HeldDisk {
     blocks: Blocks,
-    // oldest first
-    loose: ArrayVec<LooseWrite, LOOSE_MAX>,
+    loose: LooseWrites,
     plan: Plan,
-    ghost few: { array_vec_len loose ≤ 8 },
     ghost fitting: { EachFits (length (blocks_of blocks)) (held_in loose) },
 }
 
@@ -34,7 +30,7 @@ impl HeldDisk {
         let (blocks, plan) = parts(memory, plan)?;
         Ok(HeldDisk {
             blocks,
-            loose: ArrayVec::new(),
+            loose: LooseWrites::new(),
             plan,
         })
     }
@@ -59,7 +55,7 @@ impl Disk for HeldDisk {
 
     ghost rule = { λ _ _. join };
 
-    ghost sound = { λ d. parts_sound d.blocks d.loose d.plan d.few d.fitting };
+    ghost sound = { λ d. parts_sound d.blocks d.loose d.plan d.fitting };
 
     fn tries() -> u32 {
         1
@@ -72,7 +68,7 @@ impl Disk for HeldDisk {
     fn read(&mut self, place: usize, buffer: &mut [u8]) -> Result<(), DiskError> {
         let block = buffer.as_mut_array::<BLOCK>().ok_or(DiskError::Length)?;
         self.plan.admit(self.blocks.count(), Kind::Read, place)?;
-        *block = *current(&self.blocks, &self.loose, place);
+        *block = *current(&self.blocks, self.loose.as_slice(), place);
         Ok(())
     }
 
@@ -80,22 +76,22 @@ impl Disk for HeldDisk {
     fn write(&mut self, place: usize, bytes: &[u8]) -> Result<(), DiskError> {
         let block = bytes.as_array::<BLOCK>().ok_or(DiskError::Length)?;
         self.plan.admit(self.blocks.count(), Kind::Write, place)?;
-        if self.loose.is_full() {
-            lay_all(&mut self.blocks, &self.loose);
-            self.loose.clear();
-            self.blocks.store(place, block);
-        } else {
+        if self.loose.count < LOOSE_MAX {
             self.loose.push(LooseWrite {
                 place,
                 bytes: *block,
             });
+        } else {
+            lay_all(&mut self.blocks, self.loose.as_slice());
+            self.loose.clear();
+            self.blocks.store(place, block);
         }
         Ok(())
     }
 
     fn flush(&mut self) -> Result<(), DiskError> {
         self.plan.pass(Kind::Flush, 0)?;
-        lay_all(&mut self.blocks, &self.loose);
+        lay_all(&mut self.blocks, self.loose.as_slice());
         self.loose.clear();
         Ok(())
     }
@@ -103,7 +99,7 @@ impl Disk for HeldDisk {
 
 impl BenchDisk for HeldDisk {
     fn cut(&mut self, choice: u8) {
-        lay_standing(&mut self.blocks, &self.loose, choice);
+        lay_standing(&mut self.blocks, self.loose.as_slice(), choice);
         self.loose.clear();
     }
 }

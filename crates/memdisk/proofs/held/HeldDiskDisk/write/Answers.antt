@@ -1,5 +1,5 @@
 use Rattle.std.proofs.Common.{◌≡◌, ◌<◌, ◌≤◌, [], ◌∷◌, ◌++◌, length, Ok, sym, refl, ap, ◌∙◌, subst, arith, rules, tests}
-use Rattle.std.proofs.lemmas.List.{map_push}
+use Rattle.std.proofs.lemmas.List.{map_push, length-take-le}
 use Rattle.std.proofs.lemmas.List.Elements.{All-push}
 use Rattle.disk.specs.Medium.{Write, lay, Fitting, join}
 use Rattle.disk.specs.Calls.{WritesBy}
@@ -10,36 +10,34 @@ use Rattle.memdisk.proofs.Lays.{lay_push}
 use Rattle.memdisk.proofs.held.HeldDiskDisk.write.Goals as goal
 
 -- the new loose write fits the disk
-pub invariant_of-self-else-is_full-clause-fitting : goal.invariant_of-self-else-is_full-clause-fitting
-invariant_of-self-else-is_full-clause-fitting c =
+pub invariant_of-self-then-self-lt-LOOSE_MAX : goal.invariant_of-self-then-self-lt-LOOSE_MAX
+invariant_of-self-then-self-lt-LOOSE_MAX c =
     let d = c.args.self.now in
     let n = length (blocks_of d.blocks) in
-    let within : c.args.place < n = search (rules, tests) in
-    let long : length c.in_ok-block.block.now ≡ 512 = search rules in
-    subst (EachFits n) (sym c.push.ensures.items) (All-push (λ v. Fitting n (as_write v)) (held_in d.loose) _ d.fitting (within, long))
+    record { fitting = subst (EachFits n) (sym c.push.ensures) (All-push (λ v. Fitting n (as_write v)) (held_in d.loose) _ d.fitting (search (rules, tests), search rules)) }
 
-pub returns-then-is_full : goal.returns-then-is_full
-returns-then-is_full c =
+pub returns-then-self-lt-LOOSE_MAX : goal.returns-then-self-lt-LOOSE_MAX
+returns-then-self-lt-LOOSE_MAX c =
     let d = c.args.self.now in
     let m = medium_of d.blocks (held_in d.loose) d.plan in
     let w : Write = record { place = c.args.place; bytes = c.args.bytes.now } in
-    let full : 8 ≤ length m.loose = grind (arith, length_writes) in
-    let long : length w.bytes ≡ 512 = search rules in
-    let same : c.in_ok-block.block.now ≡ w.bytes = search rules in
-    let firm : blocks_of c.store.new.self ≡ lay m.firm (m.loose ++ w ∷ []) = grind (arith, lay_push) in
-    let done : WritesBy join 1 m w.place w.bytes (Ok tt) (medium_of c.store.new.self (held_in c.clear.new.self) c.admit.new.self) =
-    wrote m c.count.result _ w.place w.bytes _ c.in_ok-admit.ensures c.count.ensures long (λ later. same_medium firm (ap writes_of c.clear.ensures) later ∙ sym (put_settles m w full)) in
-    record { outcome = done; either = joined_or_settled _ _ w.place w.bytes _ _ _ done; keeps = λ f v. refl }
-
-pub returns-else-is_full : goal.returns-else-is_full
-returns-else-is_full c =
-    let d = c.args.self.now in
-    let m = medium_of d.blocks (held_in d.loose) d.plan in
-    let w : Write = record { place = c.args.place; bytes = c.args.bytes.now } in
-    let room : length m.loose < 8 = grind (arith, length_writes) in
+    let room : length m.loose < 8 = omega (arith, length_writes (held_in d.loose), length-take-le d.loose.count d.loose.writes (omega arith)) in
     let long : length w.bytes ≡ 512 = search rules in
     let same : c.in_ok-block.block.now ≡ w.bytes = search rules in
     let pushed : writes_of (held_in c.push.new.self) ≡ m.loose ++ w ∷ [] = grind (arith, map_push) in
     let done : WritesBy join 1 m w.place w.bytes (Ok tt) (medium_of d.blocks (held_in c.push.new.self) c.admit.new.self) =
     wrote m c.count.result _ w.place w.bytes _ c.in_ok-admit.ensures c.count.ensures long (λ later. same_medium refl pushed later ∙ sym (put_joins m w room)) in
+    record { outcome = done; either = joined_or_settled _ _ w.place w.bytes _ _ _ done; keeps = λ f v. refl }
+
+pub returns-else-self-lt-LOOSE_MAX : goal.returns-else-self-lt-LOOSE_MAX
+returns-else-self-lt-LOOSE_MAX c =
+    let d = c.args.self.now in
+    let m = medium_of d.blocks (held_in d.loose) d.plan in
+    let w : Write = record { place = c.args.place; bytes = c.args.bytes.now } in
+    let full : 8 ≤ length m.loose = omega (arith, length_writes (held_in d.loose), length-take-le d.loose.count d.loose.writes (omega arith)) in
+    let long : length w.bytes ≡ 512 = search rules in
+    let same : c.in_ok-block.block.now ≡ w.bytes = search rules in
+    let firm : blocks_of c.store.new.self ≡ lay m.firm (m.loose ++ w ∷ []) = grind (arith, lay_push) in
+    let done : WritesBy join 1 m w.place w.bytes (Ok tt) (medium_of c.store.new.self (held_in c.clear.new.self) c.admit.new.self) =
+    wrote m c.count.result _ w.place w.bytes _ c.in_ok-admit.ensures c.count.ensures long (λ later. same_medium firm (ap writes_of c.clear.ensures) later ∙ sym (put_settles m w full)) in
     record { outcome = done; either = joined_or_settled _ _ w.place w.bytes _ _ _ done; keeps = λ f v. refl }
