@@ -47,6 +47,24 @@ impl<D: BenchDisk> Retry<D> {
             tries: Self::tries(),
         })
     }
+
+    // Makes the call up to three times, and answers the first that is no fault; after three, a fault of this kind at this place.
+    fn tried<F: FnMut() -> Result<(), DiskError>>(
+        kind: Kind,
+        place: usize,
+        call: &mut F,
+    ) -> Result<(), DiskError>
+        requires { F.IsAlwaysCallable call.old }
+        ensures { Tries F.step 3 (answer (tripled D.Disk.attempts) kind place failed) call.old result call.new }
+    {
+        for attempt in 0..TRIES {
+            let answer = call();
+            if !faulty(&answer) {
+                return answer;
+            }
+        }
+        Err(Self::fault(kind, place))
+    }
 }
 
 // Whether the call failed and may be made again.
@@ -54,23 +72,6 @@ fn faulty(answer: &Result<(), DiskError>) -> bool
     ensures { result ≡ is_fault answer.now }
 {
     matches!(answer, Err(DiskError::Fault(_)))
-}
-
-// Makes the call up to three times, and answers the first that is no fault; after three, the fault that is given.
-fn tried<F: FnMut() -> Result<(), DiskError>>(
-    fault: DiskError,
-    call: &mut F,
-) -> Result<(), DiskError>
-    requires { F.IsAlwaysCallable call.old }
-    ensures { Tries F.step 3 (Err fault) call.old result call.new }
-{
-    for attempt in 0..TRIES {
-        let answer = call();
-        if !faulty(&answer) {
-            return answer;
-        }
-    }
-    Err(fault)
 }
 
 impl<D: BenchDisk> Disk for Retry<D> {
@@ -91,18 +92,15 @@ impl<D: BenchDisk> Disk for Retry<D> {
     }
 
     fn read(&mut self, place: usize, buffer: &mut [u8]) -> Result<(), DiskError> {
-        let fault = Self::fault(Kind::Read, place);
-        tried(fault, &mut || self.disk.read(place, buffer))
+        Self::tried(Kind::Read, place, &mut || self.disk.read(place, buffer))
     }
 
     fn write(&mut self, place: usize, bytes: &[u8]) -> Result<(), DiskError> {
-        let fault = Self::fault(Kind::Write, place);
-        tried(fault, &mut || self.disk.write(place, bytes))
+        Self::tried(Kind::Write, place, &mut || self.disk.write(place, bytes))
     }
 
     fn flush(&mut self) -> Result<(), DiskError> {
-        let fault = Self::fault(Kind::Flush, 0);
-        tried(fault, &mut || self.disk.flush())
+        Self::tried(Kind::Flush, 0, &mut || self.disk.flush())
     }
 }
 

@@ -25,7 +25,6 @@ returns g c =
     let still : o.1.now ≡ place = search rules in
     let more = retries.read_more t m place bytes i (medium p.0.now) s (medium o.0.now) o.2.now j.0 j.1 (subst (λ b. Reads t (medium p.0.now) place b s (medium o.0.now) o.2.now) j.2 (subst (λ a. Reads t (medium p.0.now) a p.2.now s (medium o.0.now) o.2.now) j.3 made)) bad in
     (more.0, more.1, more.2, still))
-    (λ p j. subst (λ r. Reads (tripled t) (retry_medium m) place bytes r (retry_medium (medium p.0.now)) p.2.now) (sym c.fault-fault.ensures)
-    (subst (Reads (tripled t) (retry_medium m) place bytes (answer (tripled t) Read place failed) (retry_medium (medium p.0.now))) (sym j.2) (retries.read_fails t m place bytes _ j.0 j.1)))
+    (λ p j. subst (Reads (tripled t) (retry_medium m) place bytes (answer (tripled t) Read place failed) (retry_medium (medium p.0.now))) (sym j.2) (retries.read_fails t m place bytes _ j.0 j.1))
     _ c.tried.result c.tried.new.call (refl, λ j h. absurd (omega arith), refl, refl) c.tried.ensures in
     search rules

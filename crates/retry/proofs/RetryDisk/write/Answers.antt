@@ -1,4 +1,4 @@
-use Rattle.std.proofs.Common.{◌≡◌, true, sym, refl, ◌∙◌, subst, arith, rules}
+use Rattle.std.proofs.Common.{◌≡◌, true, refl, ◌∙◌, subst, arith, rules}
 use Rattle.disk.specs.Medium as medium
 use Rattle.disk.proofs.Media.{joined_or_settled}
 use Rattle.disk.specs.Calls.{WritesBy, is_fault}
@@ -33,6 +33,6 @@ returns g c =
     let still : (o.1.now ≡ place) × (o.2.now ≡ bytes) = search rules in
     let more = retries.write_more t m place bytes i (med p.0.now) s (med o.0.now) j.0 j.1 _ at bad in
     (more.0, more.1, λ v. keeps v ∙ j.2 v, still.0, still.1))
-    (λ p j. (subst (λ r. WritesBy (rule d w) (tripled t) (retry_medium m) place bytes r (retry_medium (med p.0.now))) (sym c.fault-fault.ensures) (retries.write_fails t m place bytes _ j.0 j.1 (rule d w)), λ f v. j.2 v))
+    (λ p j. (retries.write_fails t m place bytes _ j.0 j.1 (rule d w), λ f v. j.2 v))
     _ c.tried.result c.tried.new.call (refl, λ j h. absurd (omega arith), λ v. refl, refl, refl) c.tried.ensures in
     record { outcome = done.0; either = joined_or_settled _ _ place bytes _ _ _ done.0; keeps = done.1 }
