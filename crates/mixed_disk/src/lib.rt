@@ -36,7 +36,7 @@ impl Disk for MixedDisk {
 
     ghost rule = { λ _ w. by_place w.place };
 
-    ghost sound = { λ d. parts_sound d.held.blocks d.held.loose d.held.plan d.held.few d.held.fitting };
+    ghost sound = { λ d. parts_sound d.held.blocks d.held.loose d.held.plan d.held.fitting };
 
     fn tries() -> u32 {
         1
