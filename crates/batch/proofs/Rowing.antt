@@ -1,15 +1,19 @@
 -- The first row that passes, and what it says of the lists of the model.
-use Rattle.std.proofs.Common.{◌≡◌, ℕ, suc, ◌+◌, Bool, true, false, cond, not, eqb, List, [], ◌∷◌, ◌++◌, map, length, get_or, drop, set, is_some, Some, None, sym, refl, ap, ◌∙◌, subst, arith}
+use Rattle.std.proofs.Common.{◌≡◌, ℕ, zero, suc, ◌+◌, ◌<◌, ◌≤◌, Bool, true, false, cond, not, eqb, List, [], ◌∷◌, ◌++◌, map, length, get_or, take, drop, set, is_some, Some, None, sym, refl, ap, ◌∙◌, subst, ⊎_elim, arith}
 use mathlib.Core.Option.{some, none}
 use Rattle.std.specs.List.{AllByRecursion, position, position_from, remove, count_by}
 use Rattle.std.proofs.lemmas.Iterator.Adapters.{position_from-zero}
-use Rattle.std.proofs.lemmas.List.{append-nil, map-append, get_or_at, set_at, take_at, drop_at, append_assoc, length_push}
+use Rattle.std.proofs.lemmas.List.{append-nil, map-append, get_or_at, set_at, take_at, drop_at, append_assoc, length_push, length-take-le, ext_get_or}
+use Rattle.std.proofs.lemmas.Bool.{cases_lt}
+use Rattle.std.proofs.lemmas.List.Edits.{length-remove, get_or-remove_below, get_or-remove_above}
+use Rattle.std.proofs.lemmas.List.Quantifiers.{position-Some}
 use Rattle.std.proofs.lemmas.List.Recursion.{is_count_by}
 use Rattle.disk.specs.Medium.{Write}
 use Rattle.head.specs.Head.{holds}
 use Rattle.journal_law.specs.Cache.{Begun, find, without, collect, cached}
 use Rattle.batch.specs.declared.entry.Entry.{Entry}
-use Rattle.batch.specs.Rows.{no_entry, write_in, begun_in, place_in, outside}
+use Rattle.batch.specs.declared.rows.Batch.{Batch}
+use Rattle.batch.specs.Rows.{no_entry, entries, write_in, begun_in, place_in, outside}
 
 -- ---- the search
 
@@ -59,6 +63,14 @@ found_row p xs i e = let r = first_row 0 p xs i (sym (position_from-zero p xs) �
 
 no_row : (p : Entry → Bool) (xs : List Entry) → position p xs ≡ None → AllByRecursion (λ x. p x ≡ false) xs
 no_row p xs e = first_none 0 p xs (sym (position_from-zero p xs) ∙ e)
+
+-- ---- the rows below the count
+
+pub entries_count : (b : Batch) → length (entries b) ≡ b.count
+entries_count b = length-take-le b.count b.rows (omega (arith, b.few, b.full))
+
+pub below_count : (p : Entry → Bool) (b : Batch) (i : ℕ) → position p (entries b) ≡ Some i → i < b.count
+below_count p b i e = omega (arith, (position-Some p (entries b) i no_entry e).0, entries_count b)
 
 -- ---- what the model makes of it
 
@@ -156,9 +168,8 @@ module _ (mark : ℕ) where
         ∙ ap (λ b. cond b (some (begun_in mark_row.here)) (find mark (map begun_in mark_row.post))) mark_row.passes
         ∙ ap (λ (e : Entry). some (begun_in e)) (sym (ap (λ l. get_or l i d) mark_row.is ∙ get_or_at mark_row.pre mark_row.here mark_row.post d i mark_row.at))
 
-    -- the rows behind it move up
-    pub without_some : map begun_in (remove xs i) ≡ without mark (map begun_in xs)
-    without_some =
+    without_removed : map begun_in (remove xs i) ≡ without mark (map begun_in xs)
+    without_removed =
         ap (map begun_in) left
         ∙ map-append begun_in mark_row.pre mark_row.post
         ∙ ap (λ b. map begun_in mark_row.pre ++ cond b (map begun_in mark_row.post) (begun_in mark_row.here ∷ without mark (map begun_in mark_row.post))) (sym mark_row.passes)
@@ -173,6 +184,21 @@ module _ (mark : ℕ) where
             ∙ ap (λ l. mark_row.pre ++ drop (suc i) l) (sym (append_assoc mark_row.pre (mark_row.here ∷ []) mark_row.post))
             ∙ ap (λ l. mark_row.pre ++ l) (drop_at (mark_row.pre ++ mark_row.here ∷ []) mark_row.post (suc i) (omega (arith, length_push mark_row.pre mark_row.here, mark_row.at)))
 
+    -- the rows behind it have moved up
+    pub without_some : (ys : List Entry) → length ys + 1 ≡ length xs → ((k : ℕ) → k < i → get_or ys k no_entry ≡ get_or xs k no_entry) →
+        ((k : ℕ) → i ≤ k → k < length ys → get_or ys k no_entry ≡ get_or xs (k + 1) no_entry) → map begun_in ys ≡ without mark (map begun_in xs)
+    without_some ys long front back = ap (map begun_in) moved ∙ without_removed
+      where
+        held : i < length xs
+        held = (position-Some at_mark xs i no_entry found).0
+
+        moved : ys ≡ remove xs i
+        moved = ext_get_or no_entry ys (remove xs i) (omega (arith, long, length-remove xs i held))
+            (λ k l. ⊎_elim
+            (λ (f : k < i). front k f ∙ sym (get_or-remove_below xs i no_entry k f held))
+            (λ (f : i ≤ k). back k f l ∙ sym (get_or-remove_above xs i no_entry k f held))
+            (cases_lt k i))
+
 -- ---- places outside another batch
 
 pub outside_by : (others : List ℕ) (xs : List Entry) → outside (map place_in xs) others ≡ count_by (λ e. not (holds e.place others)) xs
@@ -181,3 +207,11 @@ outside_by others = is_count_by (λ (xs : List Entry). outside (map place_in xs)
     go : (b : Bool) (n : ℕ) → cond b 0 1 + n ≡ cond (not b) (1 + n) n
     go true n = omega arith
     go false n = refl
+
+-- ---- a row below the count is set
+
+pub take_set_within : (n : ℕ) (xs : List Entry) (i : ℕ) (y : Entry) → i < n → take n (set xs i y) ≡ set (take n xs) i y
+take_set_within zero xs i y l = absurd (omega arith)
+take_set_within (suc n) [] i y l = refl
+take_set_within (suc n) (x ∷ xs) zero y l = refl
+take_set_within (suc n) (x ∷ xs) (suc i) y l = ap (λ zs. x ∷ zs) (take_set_within n xs i y (omega arith))

@@ -1,5 +1,5 @@
 -- The writes of a batch, as the cache's model has them.
-use Rattle.std.specs.Prelude.{ℕ, ◌+◌, cond, List, [], ◌∷◌, map}
+use Rattle.std.specs.Prelude.{ℕ, ◌+◌, cond, List, [], ◌∷◌, map, take}
 use Rattle.disk.specs.Medium.{Write}
 use Rattle.head.specs.Head.{holds}
 use Rattle.journal_law.specs.Cache.{Begun}
@@ -20,7 +20,7 @@ abbrev pub no_entry : Entry
 no_entry = record { mark = 0; place = 0; bytes = [] }
 
 abbrev pub entries : Batch → List Entry
-entries b = b.rows.items
+entries b = take b.count b.rows
 
 -- a batch as writes with their begin marks, as writes, and as places
 abbrev pub begun_list : Batch → List Begun

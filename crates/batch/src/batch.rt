@@ -16,21 +16,28 @@ impl Batch {
         ensures { entries result ≡ [] }
     {
         Batch {
-            rows: ArrayVec::new(),
+            rows: [Entry {
+                mark: 0,
+                place: 0,
+                bytes: [0; BLOCK],
+            }; MOST_PLACES],
+            count: 0,
         }
     }
 
     pub fn len(&self) -> usize
         ensures { result ≡ length (entries self.now) }
     {
-        self.rows.len()
+        self.count
     }
 
     // The first row at the place.
     fn row(&self, place: usize) -> Option<usize>
         ensures { result ≡ position (λ e. place_in e == place) (entries self.now) }
     {
-        self.rows.iter().position(|entry| entry.place == place)
+        self.rows[..self.count]
+            .iter()
+            .position(|entry| entry.place == place)
     }
 
     // Whether some write is at the place.
@@ -61,14 +68,15 @@ impl Batch {
         requires { length (entries self.old) < 8 }
         ensures { entries self.new ≡ entries self.old ++ entry ∷ [] }
     {
-        self.rows.push(entry);
+        self.rows[self.count] = entry;
+        self.count += 1;
     }
 
     // Every write leaves the batch.
     pub fn clear(&mut self)
         ensures { entries self.new ≡ [] }
     {
-        self.rows.clear();
+        self.count = 0;
     }
 
     // The write with the mark leaves the batch; those behind it move up.
@@ -76,8 +84,13 @@ impl Batch {
         ensures taken { maybe (option_map begun_in result) ≡ found_open mark (begun_list self.old) }
         ensures rest { begun_list self.new ≡ without mark (begun_list self.old) }
     {
-        let row = self.rows.iter().position(|entry| entry.mark == mark)?;
-        Some(self.rows.remove(row))
+        let row = self.rows[..self.count]
+            .iter()
+            .position(|entry| entry.mark == mark)?;
+        let entry = self.rows[row];
+        self.rows.copy_within(row + 1..self.count, row);
+        self.count -= 1;
+        Some(entry)
     }
 
     // A write at a place that is held takes that row; any other comes behind the rest.
@@ -97,7 +110,7 @@ impl Batch {
     {
         // A loop: `collect` into an ArrayVec takes an allocator and answers a Result.
         let mut places = ArrayVec::new();
-        for entry in self.rows.as_slice() {
+        for entry in &self.rows[..self.count] {
             places.push(entry.place);
         }
         places
@@ -107,7 +120,7 @@ impl Batch {
     pub fn outside(&self, other: &Batch) -> usize
         ensures { result ≡ places_outside (place_list self.now) (place_list other.now) }
     {
-        self.rows
+        self.rows[..self.count]
             .iter()
             .filter(|entry| !other.holds(entry.place))
             .count()

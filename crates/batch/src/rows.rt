@@ -1,13 +1,14 @@
-ghost use Rattle.std.specs.Prelude.{◌≤◌};
-ghost use Rattle.arrayvec.specs.ArrayVec.{array_vec_len};
+ghost use Rattle.std.specs.Prelude.{◌≡◌, ◌≤◌, length};
 
 use crate::entry::Entry;
-use arrayvec::ArrayVec;
 use head::head::MOST_PLACES;
 
-// The writes are held in the order in which they came.
-#[derive(Drop)]
+// The rows below the count are held, in the order in which they came.
+// An array with a count: an ArrayVec is no Copy, and writes a blank over each row that leaves.
+#[derive(Clone, Copy)]
 pub struct Batch {
-    pub(crate) rows: ArrayVec<Entry, MOST_PLACES>,
-    ghost few: { array_vec_len rows ≤ 8 },
+    pub(crate) rows: [Entry; MOST_PLACES],
+    pub(crate) count: usize,
+    ghost few: { count ≤ 8 },
+    ghost full: { length rows ≡ 8 },
 }

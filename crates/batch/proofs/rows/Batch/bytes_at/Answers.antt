@@ -1,10 +1,11 @@
-use Rattle.std.proofs.Common.{List, ℕ, Bor, get_or, sym, ap, ◌∙◌}
+use Rattle.std.proofs.Common.{List, ℕ, Bor, eqb, sym, ap, ◌∙◌}
 use Rattle.std.specs.Option.{option_map}
+use Rattle.std.proofs.lemmas.List.{get_or-take}
 use Rattle.batch.specs.Options.{maybe}
 use Rattle.batch.specs.declared.entry.Entry.{Entry}
 use mathlib.Core.Option.{some}
 use Rattle.batch.specs.Rows.{no_entry, entries}
-use Rattle.batch.proofs.Rowing.{cached_none, cached_some}
+use Rattle.batch.proofs.Rowing.{below_count, cached_none, cached_some}
 use Rattle.batch.proofs.rows.Batch.bytes_at.Goals as goal
 
 pub returns-in_err-row : goal.returns-in_err-row
@@ -13,5 +14,8 @@ returns-in_err-row c =
 
 pub returns : goal.returns
 returns c =
-    ap (λ (rows : List Entry). some (get_or rows c.in_ok-row.row no_entry).bytes) c.deref.ensures.0
-    ∙ sym (cached_some c.args.place (entries c.args.self.now) c.in_ok-row.row (sym c.in_ok-row.ensures))
+    let b = c.args.self.now in
+    let i = c.in_ok-row.row in
+    let within = below_count (λ (e : Entry). eqb e.place c.args.place) b i (sym c.in_ok-row.ensures) in
+    sym (cached_some c.args.place (entries b) i (sym c.in_ok-row.ensures)
+    ∙ ap (λ (e : Entry). some e.bytes) (get_or-take b.count b.rows i no_entry within))
