@@ -1,15 +1,24 @@
-ghost use Rattle.std.specs.Prelude.{◌≡◌, true, length};
-ghost use Rattle.batch.specs.Rows.{entries};
-ghost use Rattle.group.specs.Phases.{in_turn};
+ghost use Rattle.std.specs.Prelude.{◌≡◌};
+ghost use Rattle.head.specs.Codes.{head_of};
+ghost use Rattle.journal_law.specs.Cache.{group_head};
+ghost use Rattle.group.specs.Groups.{group_of};
+ghost use Rattle.group.specs.declared.phase.Phase.TheVariants as phase;
 
-use crate::phase::Phase;
 use batch::rows::Batch;
+use head::head::Head;
 
-// The writes that were collected at a sealing, with its number and the disk call that they make next.
-#[derive(Drop)]
+// The writes that were collected at a sealing, with its number.
+#[derive(Clone, Copy)]
 pub struct Group {
     pub number: u32,
     pub writes: Batch,
-    pub phase: Phase,
-    ghost turn: { in_turn phase (length (entries writes)) ≡ true },
+}
+
+impl Group {
+    // The head that names the group.
+    pub fn head(&self) -> Head
+        ensures { head_of result ≡ group_head (group_of self.now phase.Head) }
+    {
+        Head::new(self.number, self.writes.places())
+    }
 }

@@ -6,3 +6,4 @@ pub mod making;
 pub mod phase;
 pub mod sealing;
 pub mod turn;
+pub mod under_way;
