@@ -26,10 +26,11 @@ use Rattle.journal_law.proofs.Running.{lawful_runs, runs_on}
 use Rattle.group.specs.declared.phase.Phase.{Phase}
 use Rattle.group.specs.declared.phase.Phase.TheVariants as phase
 use Rattle.group.specs.declared.group.Group.{Group as CodeGroup}
+use Rattle.group.specs.declared.under_way.UnderWay.{UnderWay}
 use Rattle.group.specs.declared.turn.Turn.{Turn}
 use Rattle.errors.specs.Errors.{progress_number}
 use Rattle.group.specs.Phases.{phase_of, wrote_to, next, advanced}
-use Rattle.group.specs.Groups.{under_way, Makes}
+use Rattle.group.specs.Groups.{group_of, under_way, Makes}
 use Rattle.journal.specs.Model.{read_as, filled}
 use Rattle.journal.proofs.Rooms.{without_none}
 
@@ -136,9 +137,9 @@ module _ (device : Device) (v : Live) (ticket : ℕ) (opens : List Begun) (rest 
 
 -- ---- seal
 
-pub under_some : (o : Option CodeGroup) (b : Bool) → b ≡ option_is_some o → is_some (under_way o) ≡ b
+pub under_some : (o : Option UnderWay) (b : Bool) → b ≡ option_is_some o → is_some (under_way o) ≡ b
 under_some None b e = sym e
-under_some (Some G) b e = sym e
+under_some (Some u) b e = sym e
 
 module _ (device : Device) (v : Live) where
   abbrev seal_tested : Bool → Bool → Bool → Outcome
@@ -215,12 +216,9 @@ module _ (device : Device) (v : Live) where
 -- ---- step and restart
 
 -- a group at a phase, or none
-abbrev pub group_at : CodeGroup → Phase → Group
-group_at G p = record { number = G.number; writes = write_list G.writes; phase = phase_of p }
-
 abbrev pub under_at : CodeGroup → Option Phase → Maybe Group
 under_at G None = none
-under_at G (Some p) = some (group_at G p)
+under_at G (Some p) = some (group_of G p)
 
 abbrev turn_or : Turn → Result Turn CacheError → Turn
 turn_or d (Ok t) = t
@@ -236,7 +234,7 @@ error_or d (Err e) = e
 
 abbrev Follows : ℕ → CodeGroup → Phase → ℕ → Turn → Type 0
 Follows n G p blocks t =
-    (under_at G t.phase ≡ in_phase (group_at G p) (next_phase blocks (phase_of p))) × (progress_number t.progress ≡ good_answer (phase_call n (group_at G p) (phase_of p)))
+    (under_at G t.phase ≡ in_phase (group_of G p) (next_phase blocks (phase_of p))) × (progress_number t.progress ≡ good_answer (phase_call n (group_of G p) (phase_of p)))
 
 -- the turn that follows a good call is the model's
 next_is : (n : ℕ) (G : CodeGroup) (p : Phase) (blocks : ℕ) (t : Turn) → next blocks p ≡ Ok t → Follows n G p blocks t
@@ -244,11 +242,11 @@ next_is n G (phase.Slot i) blocks t e = go (ltb (i + 1) blocks) (ap (λ k. ltb k
   where
     go : (b : Bool) → ltb (suc i) blocks ≡ b → cond b (wrote_to (phase.Slot (i + 1))) (wrote_to phase.SlotsFlush) ≡ Ok t → Follows n G (phase.Slot i) blocks t
     go true q r = subst (Follows n G (phase.Slot i) blocks) (ap (turn_or t) r) (
-      ap (λ k. in_phase (group_at G (phase.Slot i)) (some (slot k))) (add-one i) ∙ sym (ap (λ b. in_phase (group_at G (phase.Slot i)) (some (cond b (slot (suc i)) slots_flush))) q),
+      ap (λ k. in_phase (group_of G (phase.Slot i)) (some (slot k))) (add-one i) ∙ sym (ap (λ b. in_phase (group_of G (phase.Slot i)) (some (cond b (slot (suc i)) slots_flush))) q),
       refl,
     )
     go false q r = subst (Follows n G (phase.Slot i) blocks) (ap (turn_or t) r)
-        (sym (ap (λ b. in_phase (group_at G (phase.Slot i)) (some (cond b (slot (suc i)) slots_flush))) q), refl)
+        (sym (ap (λ b. in_phase (group_of G (phase.Slot i)) (some (cond b (slot (suc i)) slots_flush))) q), refl)
 next_is n G phase.SlotsFlush blocks t e = subst (Follows n G phase.SlotsFlush blocks) (ap (turn_or t) e) (refl, refl)
 next_is n G phase.Head blocks t e = subst (Follows n G phase.Head blocks) (ap (turn_or t) e) (refl, refl)
 next_is n G phase.HeadFlush blocks t e = subst (Follows n G phase.HeadFlush blocks) (ap (turn_or t) e) (refl, refl)
@@ -256,11 +254,11 @@ next_is n G (phase.Home i) blocks t e = go (ltb (i + 1) blocks) (ap (λ k. ltb k
   where
     go : (b : Bool) → ltb (suc i) blocks ≡ b → cond b (wrote_to (phase.Home (i + 1))) (wrote_to phase.HomesFlush) ≡ Ok t → Follows n G (phase.Home i) blocks t
     go true q r = subst (Follows n G (phase.Home i) blocks) (ap (turn_or t) r) (
-      ap (λ k. in_phase (group_at G (phase.Home i)) (some (home k))) (add-one i) ∙ sym (ap (λ b. in_phase (group_at G (phase.Home i)) (some (cond b (home (suc i)) homes_flush))) q),
+      ap (λ k. in_phase (group_of G (phase.Home i)) (some (home k))) (add-one i) ∙ sym (ap (λ b. in_phase (group_of G (phase.Home i)) (some (cond b (home (suc i)) homes_flush))) q),
       refl,
     )
     go false q r = subst (Follows n G (phase.Home i) blocks) (ap (turn_or t) r)
-        (sym (ap (λ b. in_phase (group_at G (phase.Home i)) (some (cond b (home (suc i)) homes_flush))) q), refl)
+        (sym (ap (λ b. in_phase (group_of G (phase.Home i)) (some (cond b (home (suc i)) homes_flush))) q), refl)
 next_is n G phase.HomesFlush blocks t e = subst (Follows n G phase.HomesFlush blocks) (ap (turn_or t) e) (refl, refl)
 next_is n G phase.Empty blocks t e = subst (Follows n G phase.Empty blocks) (ap (turn_or t) e) (refl, refl)
 next_is n G phase.EmptyFlush blocks t e = subst (Follows n G phase.EmptyFlush blocks) (ap (turn_or t) e) (refl, refl)
@@ -285,7 +283,7 @@ next_ok blocks phase.EmptyFlush = tt
 
 module _ (v : Live) (G : CodeGroup) (p : Phase) (tries : ℕ) (rule : Write → Effect) (under : v.group ≡ under_at G (Some p)) where
   abbrev g : Group
-  g = group_at G p
+  g = group_of G p
 
   abbrev call : DiskCall
   call = phase_call v.home_count g g.phase
@@ -427,8 +425,8 @@ module _ (device : Device) (v : Live) (place room : ℕ) where
       go wrong_place z a l b = by wrong_place _ z refl b _ l a refl
 
 -- what the group holds for a read
-pub some_group : (o : Option CodeGroup) (G : CodeGroup) → o ≡ Some G → group_writes (under_way o) ≡ write_list G.writes
-some_group o G e = ap (λ x. group_writes (under_way x)) e
+pub some_group : (o : Option UnderWay) (u : UnderWay) → o ≡ Some u → group_writes (under_way o) ≡ write_list u.group.writes
+some_group o u e = ap (λ x. group_writes (under_way x)) e
 
 -- ---- the making
 

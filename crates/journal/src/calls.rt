@@ -8,13 +8,11 @@ ghost use Rattle.journal.specs.Model.{model, does, marked, done};
 
 use crate::live::Live;
 use batch::entry::Entry;
-use batch::rows::Batch;
 use disk::disk::{BLOCK, BenchDisk};
 use errors::CacheError;
 pub use errors::LAST_MARK;
-use group::group::Group;
+use group::under_way::UnderWay;
 use head::head::MOST_PLACES;
-use std::mem;
 
 // No group has a higher number.
 pub const LAST_NUMBER: u32 = 4_294_967_295;
@@ -95,8 +93,8 @@ impl<D: BenchDisk> Live<D> {
             return Err(CacheError::NoNumbers);
         }
         let number = self.last + 1;
-        let writes = mem::replace(&mut self.collected, Batch::new());
-        self.group = Some(Group::new(number, writes));
+        self.group = Some(UnderWay::new(number, self.collected));
+        self.collected.clear();
         self.last = number;
         Ok(number)
     }

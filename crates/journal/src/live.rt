@@ -4,7 +4,7 @@ ghost use Rattle.journal_law.specs.Cache.{place_of, begun_place, different};
 ghost use Rattle.batch.specs.Rows.{entries, begun_list, write_list};
 
 use batch::rows::Batch;
-use group::group::Group;
+use group::under_way::UnderWay;
 
 // A recovered volume that takes the calls of the cache.
 #[derive(Drop)]
@@ -16,7 +16,7 @@ pub struct Live<D> {
     pub(crate) opens: Batch,
     pub(crate) collected: Batch,
     // the sealed group while it is under way
-    pub(crate) group: Option<Group>,
+    pub(crate) group: Option<UnderWay>,
     // the last number
     pub(crate) last: u32,
     ghost room: { home ≤ 4087 },

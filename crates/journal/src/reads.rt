@@ -20,7 +20,7 @@ impl<D: BenchDisk> Live<D> {
         if let Some(bytes) = self.collected.bytes_at(place) {
             return Some(bytes);
         }
-        self.group.as_ref()?.writes.bytes_at(place)
+        self.group.as_ref()?.group.writes.bytes_at(place)
     }
 
     // Fills the buffer with the place's block; a refusal leaves the buffer.

@@ -15,13 +15,13 @@ impl<D: BenchDisk> Live<D> {
         ensures outcome { record { answer = stepped result; live = model D.Disk.medium self.new } ≡ does D.Disk.medium D.Disk.rule D.Disk.attempts self.old step_call }
         ensures runs { RunsOn step_call (model D.Disk.medium self.old) (stepped result) (model D.Disk.medium self.new) }
     {
-        let Some(group) = &mut self.group else {
+        let Some(under_way) = &mut self.group else {
             return Ok(Progress::Idle);
         };
-        let answer = during(CacheCall::Step, group.make(&mut self.disk, self.home));
-        let turn = advance(group.phase, group.writes.len(), answer)?;
+        let answer = during(CacheCall::Step, under_way.make(&mut self.disk, self.home));
+        let turn = advance(under_way.phase, under_way.group.writes.len(), answer)?;
         match turn.phase {
-            Some(phase) => group.phase = phase,
+            Some(phase) => under_way.phase = phase,
             None => self.group = None,
         }
         Ok(turn.progress)
@@ -33,8 +33,8 @@ impl<D: BenchDisk> Live<D> {
         ensures runs { RunsOn (restart_call choice) (model D.Disk.medium self.old) (accepted 0) (model D.Disk.medium self.new) }
     {
         self.disk.cut(choice);
-        if let Some(group) = &mut self.group {
-            group.restart();
+        if let Some(under_way) = &mut self.group {
+            under_way.restart();
         }
     }
 }

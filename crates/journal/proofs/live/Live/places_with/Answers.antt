@@ -3,6 +3,7 @@ use Rattle.std.proofs.lemmas.List.{length-map}
 use Rattle.head.specs.Head.{holds}
 use Rattle.journal_law.specs.Cache.{place_of, begun_place}
 use Rattle.batch.specs.Rows.{entries, place_in, write_in, place_list, write_list, begun_list, outside}
+use Rattle.batch.proofs.Rowing.{entries_count}
 use Rattle.group.proofs.Calling.{entry_places}
 use Rattle.journal.proofs.Rooms.{begun_places, outside_le, room_is}
 use Rattle.journal.proofs.live.Live.places_with.Goals as goal
@@ -10,15 +11,15 @@ use Rattle.journal.proofs.live.Live.places_with.Goals as goal
 pub overflow_add-taken : goal.overflow_add-taken
 overflow_add-taken g c =
     let v = c.args.self.now in
-    let a : length (entries v.collected) ≤ 8 = omega (arith, v.collected.few) in
-    let b : length (place_list v.opens) ≤ 8 = omega (arith, length-map (entries v.opens) place_in, v.opens.few) in
+    let a : length (entries v.collected) ≤ 8 = omega (arith, v.collected.few, entries_count v.collected) in
+    let b : length (place_list v.opens) ≤ 8 = omega (arith, length-map (entries v.opens) place_in, v.opens.few, entries_count v.opens) in
     omega (arith, a, b, c.len.ensures, c.outside.ensures, outside_le (place_list v.opens) (place_list v.collected))
 
 pub overflow_add-result : goal.overflow_add-result
 overflow_add-result g c =
     let v = c.args.self.now in
-    let a : length (entries v.collected) ≤ 8 = omega (arith, v.collected.few) in
-    let b : length (place_list v.opens) ≤ 8 = omega (arith, length-map (entries v.opens) place_in, v.opens.few) in
+    let a : length (entries v.collected) ≤ 8 = omega (arith, v.collected.few, entries_count v.collected) in
+    let b : length (place_list v.opens) ≤ 8 = omega (arith, length-map (entries v.opens) place_in, v.opens.few, entries_count v.opens) in
     omega (arith, a, b, c.len.ensures, c.outside.ensures, outside_le (place_list v.opens) (place_list v.collected))
 
 pub returns-then-holds : goal.returns-then-holds

@@ -41,7 +41,7 @@ returns-then-self-ge-LAST_NUMBER g c =
 pub invariant_of-self : goal.invariant_of-self
 invariant_of-self g c =
     let s = c.args.self.now in
-    let bare : write_list c.replace-writes.new.dest ≡ [] = ap write_list c.replace-writes.ensures.after ∙ ap (map write_in) c.new.ensures in record {
+    let bare : write_list c.clear.new.self ≡ [] = ap (map write_in) c.clear.ensures in record {
       room = s.room;
       marks = s.marks;
       inside = s.inside;
@@ -58,6 +58,6 @@ returns g c =
     let v = model g.D.Disk.medium s in
     let bare : eqb (length v.collected) 0 ≡ false = ne_eqb (length v.collected) 0 (λ q. absurd (omega (arith, q, length-map (entries s.collected) write_in, c.len.ensures, c.if-len-eq0.false))) in
     let e = seal_0 device v (under_some s.group false c.if-is_some.ensures) bare (lt-leb 4_294_967_295 s.last c.if-self-ge-LAST_NUMBER.false)
-    (write_list c.replace-writes.new.dest) (under_way (Some c.new-2.result)) (ap write_list c.replace-writes.ensures.after ∙ ap (map write_in) c.new.ensures)
-    (ap some (c.new-2.ensures ∙ ap (λ (ws : List Write). record { number = s.last + 1; writes = ws; phase = slot 0 }) (ap write_list c.replace-writes.ensures.value))) in
+    (write_list c.clear.new.self) (under_way (Some c.new.result)) (ap (map write_in) c.clear.ensures)
+    (ap some c.new.ensures) in
     record { outcome = e; runs = runs_by device seal v _ e }

@@ -25,17 +25,18 @@ returns-in_err-turn g c =
     let s = c.args.self.now in
     let device = met g.D.Disk.medium g.D.Disk.rule g.D.Disk.attempts s in
     let v = model g.D.Disk.medium s in
-    let G = c.in-Some.group in
+    let u = c.in-Some.under_way in
+    let G = u.group in
     let m = g.D.Disk.medium c.make.new.disk in
     let x = c.in_err-turn.field-0.0 in
     let under = ap under_way c.in-Some.is in
     let count = c.len.ensures ∙ sym (length-map (entries G.writes) write_in) in
-    let advances = c.in_err-turn.ensures ∙ ap (advanced c.len.result G.phase) c.during-answer.ensures in
+    let advances = c.in_err-turn.ensures ∙ ap (advanced c.len.result u.phase) c.during-answer.ensures in
     let p = err_from_is_err_and c.from_residual.result c.from_residual.ensures.1 in
     let same : stepped c.from_residual.result ≡ refused x = ap stepped p.1 ∙ ap refused p.2 in
-    let e = ap (λ (a : Answer). record { answer = a; live = with_group v m (under_at G (Some G.phase)) }) same
+    let e = ap (λ (a : Answer). record { answer = a; live = with_group v m (under_at G (Some u.phase)) }) same
     ∙ ap (λ (o : Maybe Group). record { answer = refused x; live = with_group v m o }) (sym under)
-    ∙ step_err v G G.phase g.D.Disk.attempts (g.D.Disk.rule s.disk) under c.len.result c.make.result m c.make.ensures count x advances in
+    ∙ step_err v G u.phase g.D.Disk.attempts (g.D.Disk.rule s.disk) under c.len.result c.make.result m c.make.ensures count x advances in
     record { outcome = e; runs = runs_by device step v _ e }
 
 pub returns-in-Some-phase : goal.returns-in-Some-phase
@@ -43,13 +44,14 @@ returns-in-Some-phase g c =
     let s = c.args.self.now in
     let device = met g.D.Disk.medium g.D.Disk.rule g.D.Disk.attempts s in
     let v = model g.D.Disk.medium s in
-    let G = c.in-Some.group in
+    let u = c.in-Some.under_way in
+    let G = u.group in
     let m = g.D.Disk.medium c.make.new.disk in
     let t = c.in_ok-turn.turn in
     let count = c.len.ensures ∙ sym (length-map (entries G.writes) write_in) in
-    let advances = c.in_ok-turn.ensures ∙ ap (advanced c.len.result G.phase) c.during-answer.ensures in
+    let advances = c.in_ok-turn.ensures ∙ ap (advanced c.len.result u.phase) c.during-answer.ensures in
     let e = ap (λ (o : Option Phase). record { answer = accepted (progress_number t.progress); live = with_group v m (under_at G o) }) (sym c.in-Some-phase.is)
-    ∙ step_ok v G G.phase g.D.Disk.attempts (g.D.Disk.rule s.disk) (ap under_way c.in-Some.is) c.len.result c.make.result m c.make.ensures count t advances in
+    ∙ step_ok v G u.phase g.D.Disk.attempts (g.D.Disk.rule s.disk) (ap under_way c.in-Some.is) c.len.result c.make.result m c.make.ensures count t advances in
     record { outcome = e; runs = runs_by device step v _ e }
 
 pub returns-in-None : goal.returns-in-None
@@ -57,11 +59,12 @@ returns-in-None g c =
     let s = c.args.self.now in
     let device = met g.D.Disk.medium g.D.Disk.rule g.D.Disk.attempts s in
     let v = model g.D.Disk.medium s in
-    let G = c.in-Some.group in
+    let u = c.in-Some.under_way in
+    let G = u.group in
     let m = g.D.Disk.medium c.make.new.disk in
     let t = c.in_ok-turn.turn in
     let count = c.len.ensures ∙ sym (length-map (entries G.writes) write_in) in
-    let advances = c.in_ok-turn.ensures ∙ ap (advanced c.len.result G.phase) c.during-answer.ensures in
+    let advances = c.in_ok-turn.ensures ∙ ap (advanced c.len.result u.phase) c.during-answer.ensures in
     let e = ap (λ (o : Option Phase). record { answer = accepted (progress_number t.progress); live = with_group v m (under_at G o) }) (sym c.in-None.is)
-    ∙ step_ok v G G.phase g.D.Disk.attempts (g.D.Disk.rule s.disk) (ap under_way c.in-Some.is) c.len.result c.make.result m c.make.ensures count t advances in
+    ∙ step_ok v G u.phase g.D.Disk.attempts (g.D.Disk.rule s.disk) (ap under_way c.in-Some.is) c.len.result c.make.result m c.make.ensures count t advances in
     record { outcome = e; runs = runs_by device step v _ e }
