@@ -16,7 +16,6 @@ use head::head::MOST_PLACES;
 use listing::answer::Answer;
 use narration::deed::Deed;
 use std::marker::Model;
-use std::mem;
 use trace::call::TraceCall;
 
 // The open writes, the collected ones, and the group's with its phase, if one is under way.
@@ -113,8 +112,9 @@ impl JournalWatch {
         ensures { self.new ≡ sealed self.old }
     {
         if self.collected.len() > 0 {
-            self.group = mem::replace(&mut self.collected, Batch::new());
+            self.group = self.collected;
             self.phase = Some(Phase::Slot(0));
+            self.collected.clear();
         }
     }
 
