@@ -1,9 +1,9 @@
-use Rattle.std.proofs.Common.{◌≡◌, ◌≤◌, true, false, eqb, List, [], ◌++◌, map, length, ◌+◌, Some, sym, ap, ◌∙◌, subst, arith}
+use Rattle.std.proofs.Common.{◌≡◌, ◌≤◌, true, false, eqb, List, [], ◌++◌, map, length, Some, sym, ap, ◌∙◌, subst, arith}
 use Rattle.std.proofs.lemmas.List.{length-map}
 use Rattle.std.proofs.lemmas.Bool.{eq-eqb, ne_eqb, le-leb, lt-leb}
 use Rattle.disk.specs.Medium.{Write}
 use Rattle.head.specs.Head.{all_below, none_twice}
-use Rattle.journal_law.specs.Cache.{seal, slot, place_of, begun_place, different}
+use Rattle.journal_law.specs.Cache.{seal, place_of, begun_place, different}
 use Rattle.journal_law.proofs.Entries.{room_seal}
 use mathlib.Core.Option.{some}
 use Rattle.group.specs.Groups.{under_way}
