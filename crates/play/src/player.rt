@@ -4,7 +4,8 @@ ghost use Rattle.trace.specs.declared.call.TraceCall.{TraceCall as Called};
 ghost use Rattle.trace.specs.declared.call.TraceCall.TheVariants.{Cut};
 ghost use Rattle.trace.specs.Calls.{cut_choice};
 ghost use Rattle.listing.specs.declared.line.Line.{Line as Told};
-ghost use Rattle.listing.specs.Lines.{told};
+ghost use Rattle.listing.specs.Answers.{answer_value};
+ghost use Rattle.listing.specs.Lines.{told, by_value};
 
 use listing::answer::Answer;
 use listing::line::Line;
@@ -23,13 +24,13 @@ pub(crate) trait Player: Sized {
     fn play(&mut self, call: TraceCall) -> Result<Answer, PlayError>
         requires fit { Fit self.old }
         requires no_cut { cut_choice call ≡ None }
-        ensures line { (rest : List Called) → lines self.old (call ∷ rest) ≡ told call result ∷ lines self.new rest }
+        ensures line { (rest : List Called) → lines self.old (call ∷ rest) ≡ told call (by_value result) ∷ lines self.new rest }
         ensures fit { Fit self.new };
 
     // Plays a cut: the cache over the volume that is taken up again, and the cut's answer.
     fn play_cut(self, choice: u8) -> (Self, Answer)
         requires { Fit self }
-        ensures line { (rest : List Called) → lines self (Cut choice ∷ rest) ≡ told (Cut choice) (Ok result.1) ∷ lines result.0 rest }
+        ensures line { (rest : List Called) → lines self (Cut choice ∷ rest) ≡ told (Cut choice) (Ok (answer_value result.1)) ∷ lines result.0 rest }
         ensures fit { Fit result.0 };
 
     ghost ends: { (p : Self) → lines p [] ≡ [] };
@@ -53,10 +54,7 @@ pub(crate) fn play_calls<C: Player + Drop>(
                 Ok(answer)
             }
         };
-        lines.push(Line {
-            call: *call,
-            answer,
-        })?;
+        lines.push(Line::new(*call, answer.map(Answer::value)))?;
     }
     Ok(())
 }
