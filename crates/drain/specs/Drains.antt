@@ -1,15 +1,10 @@
 -- A full table, drained in rounds.
-use Rattle.std.specs.Prelude.{ℕ, ◌+◌, ◌-◌, ◌*◌, ◌/◌, ◌%◌, Bool, true, false, cond, List, [], map, length, filter, Ok, Err, Result, nat_lt}
+use Rattle.std.specs.Prelude.{ℕ, ◌+◌, ◌-◌, ◌*◌, ◌/◌, ◌%◌, Bool, cond, ◌&&◌, List, [], map, length, filter, ◌==◌, nat_lt}
 use Rattle.std.specs.List.{range_with_len}
 use Rattle.trace.specs.declared.call.Mode.{Mode}
 use Rattle.trace.specs.declared.call.TraceCall.{TraceCall}
 use Rattle.trace.specs.declared.call.TraceCall.TheVariants.{Begin, Finish, Step}
-use Rattle.errors.specs.declared.Progress.{Progress}
-use Rattle.errors.specs.declared.Progress.TheVariants as progress
-use Rattle.listing.specs.declared.answer.Answer.{Answer}
 use Rattle.listing.specs.declared.line.Line.{Line}
-use Rattle.listing.specs.declared.play_error.PlayError.{PlayError}
-use Rattle.listing.specs.Answers.{step_in}
 use Rattle.play.specs.Plays.{blank_disk, mode_lines}
 
 -- A round has 128 calls: 32 begins, at places 0 to 31, then the finishes of these writes, then 64 steps. A round takes 64
@@ -25,19 +20,9 @@ drain_call i = turn_call (i / 128) (i % 128)
 abbrev pub drain_calls : ℕ → List TraceCall
 drain_calls rounds = map drain_call (range_with_len 0 (128 * rounds))
 
-abbrev pub wrote : Progress → Bool
-wrote progress.Idle = false
-wrote progress.Written = true
-wrote progress.Flushed = false
-wrote progress.Blocked = false
-
-abbrev pub says_written : Result Answer PlayError → Bool
-says_written (Ok a) = wrote (step_in a)
-says_written (Err e) = false
-
 -- a step that wrote
 abbrev pub is_written : Line → Bool
-is_written l = says_written l.answer
+is_written l = l.code == 5 && (l.answer == 0 && l.value == 1)
 
 -- how many writes the rounds sent to the disk
 abbrev pub drained : Mode → ℕ → ℕ

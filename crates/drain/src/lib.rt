@@ -5,8 +5,6 @@ ghost use Rattle.std.specs.Prelude.{◌≡◌, ◌*◌, ◌<◌, ◌≤◌, min,
 ghost use Rattle.std.specs.List.{range_with_len};
 ghost use Rattle.drain.specs.Drains.{drain_call, drain_calls, is_written, drained};
 
-use errors::Progress;
-use listing::answer::Answer;
 use listing::line::Line;
 use play::play::play_list;
 use std::alloc::{AllocError, Global};
@@ -53,7 +51,7 @@ fn calls(heap: Global, rounds: usize) -> Result<Vec<TraceCall>, AllocError>
 fn is_written(line: &Line) -> bool
     ensures { result ≡ is_written line.now }
 {
-    matches!(line.answer, Ok(Answer::Step(Progress::Written)))
+    line.code == 5 && line.answer == 0 && line.value == 1
 }
 
 // How many of the lines do.
