@@ -1,3 +1,4 @@
+pub mod Openings
 pub mod Telling
 pub mod Repeating
 pub mod Formatting
