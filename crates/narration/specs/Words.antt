@@ -1,23 +1,12 @@
 -- The words for a call and its answer.
-use Rattle.std.specs.Prelude.{ℕ, List, ◌++◌, codes, decimal, Some, None, Ok, Err, Option, Result}
-use Rattle.disk.specs.declared.error.DiskError.TheVariants as disk
-use Rattle.disk.specs.declared.error.Fault.{Fault}
-use Rattle.errors.specs.declared.VolumeError.{VolumeError}
-use Rattle.errors.specs.declared.VolumeError.TheVariants as volume
-use Rattle.errors.specs.declared.CacheError.{CacheError}
-use Rattle.errors.specs.declared.CacheError.TheVariants as cache
-use Rattle.errors.specs.declared.Progress.{Progress}
-use Rattle.errors.specs.declared.Progress.TheVariants as progress
+use Rattle.std.specs.Prelude.{ℕ, cond, List, [], ◌∷◌, ◌++◌, codes, decimal, Some, None, Option, ◌==◌, slice_index_or}
+use Rattle.trace.specs.declared.call.Mode.{Mode}
+use Rattle.trace.specs.declared.call.Mode.TheVariants as mode
 use Rattle.trace.specs.declared.call.TraceCall.{TraceCall}
 use Rattle.trace.specs.declared.call.TraceCall.TheVariants.{Begin, Finish, Withdraw, Read, Step, Seal, Restart, Cut}
 use Rattle.narration.specs.declared.deed.Deed.{Deed}
 use Rattle.narration.specs.declared.deed.Deed.TheVariants as deed
-use Rattle.listing.specs.declared.answer.Answer.{Answer}
-use Rattle.listing.specs.declared.answer.Answer.TheVariants as answer
 use Rattle.listing.specs.declared.line.Line.{Line}
-use Rattle.listing.specs.declared.play_error.PlayError.{PlayError}
-use Rattle.listing.specs.declared.play_error.PlayError.TheVariants.{SealInOrder, Cache}
-use Rattle.listing.specs.Errors.{play_number, play_fault}
 
 -- what a call asks for
 abbrev pub asked_text : TraceCall → List ℕ
@@ -42,63 +31,60 @@ abbrev pub wrote_text : Option Deed → List ℕ
 wrote_text None = codes "wrote a block"
 wrote_text (Some d) = codes "wrote " ++ deed_text d
 
+-- what a step did that wrote nothing, by its answer
+abbrev pub step_word : ℕ → List ℕ
+step_word answer = cond (answer == 0) (codes "idle") (cond (answer == 2) (codes "flushed") (codes "blocked"))
+
 -- what a step did
-abbrev pub step_text : Progress → Option Deed → List ℕ
-step_text progress.Idle d = codes "idle"
-step_text progress.Written d = wrote_text d
-step_text progress.Flushed d = codes "flushed"
-step_text progress.Blocked d = codes "blocked"
+abbrev pub step_text : ℕ → Option Deed → List ℕ
+step_text answer d = cond (answer == 1) (wrote_text d) (step_word answer)
+
+-- what follows a cut: only the journaled cache recovers a group
+abbrev pub cut_text : Mode → ℕ → List ℕ
+cut_text mode.Overlap value = codes "opened again"
+cut_text mode.Line value = codes "opened again"
+cut_text mode.Journaled value = codes "recovered group " ++ decimal value
 
 -- what an accepted call answered
-abbrev pub accepted_text : Answer → Option Deed → List ℕ
-accepted_text (answer.Ticket n) d = codes "ticket " ++ decimal n
-accepted_text (answer.Mark n) d = codes "mark " ++ decimal n
-accepted_text answer.Withdrawn d = codes "gone"
-accepted_text (answer.FirstByte byte) d = codes "first byte " ++ decimal byte
-accepted_text (answer.Step p) d = step_text p d
-accepted_text (answer.Group n) d = codes "group " ++ decimal n
-accepted_text answer.Restarted d = codes "cut and started again"
-accepted_text answer.Opened d = codes "opened again"
-accepted_text (answer.Recovered n) d = codes "recovered group " ++ decimal n
+abbrev pub accepted_text : Mode → TraceCall → ℕ → Option Deed → List ℕ
+accepted_text m (Begin place fill) value d = codes "ticket " ++ decimal value
+accepted_text m (Finish ticket) value d = codes "mark " ++ decimal value
+accepted_text m (Withdraw ticket) value d = codes "gone"
+accepted_text m (Read place) value d = codes "first byte " ++ decimal value
+accepted_text m Step value d = step_text value d
+accepted_text m Seal value d = codes "group " ++ decimal value
+accepted_text m (Restart choice) value d = codes "cut and started again"
+accepted_text m (Cut choice) value d = cut_text m value
 
--- why the volume refused
-abbrev pub volume_reason : VolumeError → List ℕ
-volume_reason (volume.Disk disk.Length) = codes "the bytes are not one block"
-volume_reason (volume.Disk disk.Place) = codes "the place is not one of the cache's"
-volume_reason (volume.Disk (disk.Fault f)) = codes "only the journaled cache seals"
-volume_reason volume.NoHead = codes "only the journaled cache seals"
-volume_reason volume.TooSmall = codes "only the journaled cache seals"
+-- why a seal was refused
+abbrev pub seal_reason : ℕ → List ℕ
+seal_reason number =
+    cond (number == 8) (codes "nothing is collected")
+    (cond (number == 9) (codes "a group is under way")
+    (cond (number == 10) (codes "the last group number is used")
+    (codes "only the journaled cache seals")))
 
--- why the cache refused
-abbrev pub cache_reason : CacheError → List ℕ
-cache_reason cache.Length = codes "the bytes are not one block"
-cache_reason cache.Place = codes "the place is not one of the cache's"
-cache_reason cache.PlaceOpen = codes "the place has an open write"
-cache_reason cache.NoRoom = codes "there is no room for one more write"
-cache_reason cache.NoMarks = codes "too few marks are left"
-cache_reason cache.NoTicket = codes "no open write has the ticket"
-cache_reason cache.NothingCollected = codes "nothing is collected"
-cache_reason cache.GroupUnderWay = codes "a group is under way"
-cache_reason cache.NoNumbers = codes "the last group number is used"
-cache_reason (cache.Volume call e) = volume_reason e
+-- why a call was refused: 1 to 6 have reasons in this order, and the other numbers are a seal's
+abbrev pub reasons : List ℕ → List (List ℕ)
+reasons other =
+    other
+    ∷ (codes "the bytes are not one block"
+    ∷ (codes "the place is not one of the cache's"
+    ∷ (codes "the place has an open write"
+    ∷ (codes "there is no room for one more write"
+    ∷ (codes "too few marks are left"
+    ∷ (codes "no open write has the ticket" ∷ []))))))
 
--- why a call was refused
-abbrev pub reason_of : PlayError → List ℕ
-reason_of SealInOrder = codes "only the journaled cache seals"
-reason_of (Cache e) = cache_reason e
+abbrev pub reason_of : ℕ → List ℕ
+reason_of number = slice_index_or (reasons (seal_reason number)) number (seal_reason number)
 
 -- a refusal, which for a disk's fault tells the tries
-abbrev pub refused_as : Option Fault → PlayError → List ℕ
-refused_as None e = codes "refused " ++ (decimal (play_number e) ++ (codes ", " ++ reason_of e))
-refused_as (Some f) e = codes "failed after " ++ (decimal f.tries ++ codes " tries")
-
-abbrev pub refused_text : PlayError → List ℕ
-refused_text e = refused_as (play_fault e) e
-
-abbrev pub answer_text : Result Answer PlayError → Option Deed → List ℕ
-answer_text (Ok a) d = accepted_text a d
-answer_text (Err e) d = refused_text e
+abbrev pub refused_text : Line → List ℕ
+refused_text l =
+    cond (l.answer == 7)
+    (codes "failed after " ++ (decimal l.value ++ codes " tries"))
+    (codes "refused " ++ (decimal l.answer ++ (codes ", " ++ reason_of l.answer)))
 
 -- a call and what became of it
-abbrev pub told_text : Line → Option Deed → List ℕ
-told_text l d = asked_text l.call ++ (codes ": " ++ answer_text l.answer d)
+abbrev pub told_text : Mode → TraceCall → Line → Option Deed → List ℕ
+told_text m call l d = asked_text call ++ (codes ": " ++ cond (l.answer == 0) (accepted_text m call l.value d) (refused_text l))

@@ -1,69 +1,47 @@
 ghost use Rattle.std.specs.Prelude.{◌≡◌, Some};
-ghost use Rattle.narration.specs.Words.{volume_reason, cache_reason, reason_of, refused_text};
+ghost use Rattle.narration.specs.Words.{reason_of, refused_text};
 
-use disk::error::DiskError;
-use errors::{CacheError, VolumeError};
-use listing::play_error::PlayError;
+use listing::line::Line;
 use std::fmt;
 
-// Why the volume refused. A live cache's refusal is a disk's: no word is kept for what only a volume refuses.
-fn volume_reason(error: VolumeError) -> &'static str
-    ensures { result.now ≡ volume_reason error }
+// The number of a disk's fault.
+const FAULT: u8 = 7;
+
+// Why a call was refused, by the number of the refusal; 15 is the only other number that a play gives.
+fn reason(number: u8) -> &'static str
+    ensures { result.now ≡ reason_of number }
 {
-    match error {
-        VolumeError::Disk(DiskError::Length) => "the bytes are not one block",
-        VolumeError::Disk(DiskError::Place) => "the place is not one of the cache's",
+    match number {
+        1 => "the bytes are not one block",
+        2 => "the place is not one of the cache's",
+        3 => "the place has an open write",
+        4 => "there is no room for one more write",
+        5 => "too few marks are left",
+        6 => "no open write has the ticket",
+        8 => "nothing is collected",
+        9 => "a group is under way",
+        10 => "the last group number is used",
         _ => "only the journaled cache seals",
-    }
-}
-
-// Why the cache refused.
-fn cache_reason(error: CacheError) -> &'static str
-    ensures { result.now ≡ cache_reason error }
-{
-    match error {
-        CacheError::Length => "the bytes are not one block",
-        CacheError::Place => "the place is not one of the cache's",
-        CacheError::PlaceOpen => "the place has an open write",
-        CacheError::NoRoom => "there is no room for one more write",
-        CacheError::NoMarks => "too few marks are left",
-        CacheError::NoTicket => "no open write has the ticket",
-        CacheError::NothingCollected => "nothing is collected",
-        CacheError::GroupUnderWay => "a group is under way",
-        CacheError::NoNumbers => "the last group number is used",
-        CacheError::Volume(_, error) => volume_reason(error),
-    }
-}
-
-fn reason(error: PlayError) -> &'static str
-    ensures { result.now ≡ reason_of error }
-{
-    match error {
-        PlayError::SealInOrder => "only the journaled cache seals",
-        PlayError::Cache(error) => cache_reason(error),
     }
 }
 
 // A call that was refused.
 #[derive(Clone, Copy)]
 pub(crate) struct Refused {
-    pub error: PlayError,
+    pub line: Line,
 }
 
 impl fmt::Display for Refused {
-    ghost output = { λ r. Some (refused_text r.error) };
+    ghost output = { λ r. Some (refused_text r.line) };
 
     fn fmt<W: fmt::Write>(&self, f: &mut fmt::Formatter<W>) -> fmt::Result {
-        match self.error.fault() {
-            Some(fault) => {
-                let tries = fault.tries;
-                write!(f, "failed after {tries} tries")
-            }
-            None => {
-                let number = self.error.number();
-                let reason = reason(self.error);
-                write!(f, "refused {number}, {reason}")
-            }
+        let number = self.line.answer;
+        if number == FAULT {
+            let tries = self.line.value;
+            write!(f, "failed after {tries} tries")
+        } else {
+            let reason = reason(number);
+            write!(f, "refused {number}, {reason}")
         }
     }
 }
