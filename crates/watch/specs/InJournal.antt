@@ -13,8 +13,6 @@ use Rattle.group.specs.declared.turn.Turn.{Turn}
 use Rattle.group.specs.Phases.{next}
 use Rattle.trace.specs.declared.call.TraceCall.{TraceCall}
 use Rattle.trace.specs.declared.call.TraceCall.TheVariants as call
-use Rattle.listing.specs.declared.answer.Answer.{Answer}
-use Rattle.listing.specs.Answers.{answer_value}
 use Rattle.narration.specs.declared.deed.Deed.{Deed}
 use Rattle.narration.specs.declared.deed.Deed.TheVariants as deed
 
@@ -96,15 +94,15 @@ abbrev pub with_writes : Followed → List Begun → List Write → Followed
 with_writes f os ws = record { open_writes = os; collected = ws; group = f.group; phase = f.phase }
 
 -- what is followed after an accepted call with this answer
-abbrev pub followed_after : TraceCall → Answer → Followed → Followed
-followed_after (call.Begin place fill) a f = with_writes f (opens_more place fill (answer_value a) f.open_writes) f.collected
-followed_after (call.Finish ticket) a f = with_writes f (without ticket f.open_writes) (collected_more (find ticket f.open_writes) f.collected)
-followed_after (call.Withdraw ticket) a f = with_writes f (without ticket f.open_writes) f.collected
-followed_after (call.Read place) a f = f
-followed_after call.Step a f = in_phase f (phase_after (length f.group) f.phase)
-followed_after call.Seal a f = sealed f
-followed_after (call.Restart choice) a f = in_phase f (phase_restarted f.phase)
-followed_after (call.Cut choice) a f = unfollowed
+abbrev pub followed_after : TraceCall → ℕ → Followed → Followed
+followed_after (call.Begin place fill) value f = with_writes f (opens_more place fill value f.open_writes) f.collected
+followed_after (call.Finish ticket) value f = with_writes f (without ticket f.open_writes) (collected_more (find ticket f.open_writes) f.collected)
+followed_after (call.Withdraw ticket) value f = with_writes f (without ticket f.open_writes) f.collected
+followed_after (call.Read place) value f = f
+followed_after call.Step value f = in_phase f (phase_after (length f.group) f.phase)
+followed_after call.Seal value f = sealed f
+followed_after (call.Restart choice) value f = in_phase f (phase_restarted f.phase)
+followed_after (call.Cut choice) value f = unfollowed
 
 -- what it wrote, if it wrote
 abbrev pub deed_in_journal : TraceCall → Followed → Option Deed

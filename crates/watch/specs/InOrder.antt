@@ -1,7 +1,5 @@
 -- The ordered cache's rows, followed by the calls that it accepted and their answers alone.
-use Rattle.std.specs.Prelude.{ℕ, cond, List, replicate, Some, None, Option, slice_index_or}
-use Rattle.errors.specs.declared.Progress.{Progress}
-use Rattle.errors.specs.declared.Progress.TheVariants as progress
+use Rattle.std.specs.Prelude.{ℕ, cond, List, replicate, Some, None, Option, ◌==◌, slice_index_or}
 use Rattle.precedence.specs.Stamps.{Precedence}
 use Rattle.table.specs.declared.scan.Candidate.{Candidate}
 use Rattle.table.specs.Versions.{room, begun, finish_one, withdraw_one, bring_home, wait_again}
@@ -9,8 +7,6 @@ use Rattle.table.specs.Rows.{Row, in_rows, no_rows, stamp_of, put, change, leave
 use Rattle.table.specs.Scans.{lowest_ready}
 use Rattle.trace.specs.declared.call.TraceCall.{TraceCall}
 use Rattle.trace.specs.declared.call.TraceCall.TheVariants as call
-use Rattle.listing.specs.declared.answer.Answer.{Answer}
-use Rattle.listing.specs.Answers.{answer_value, step_in}
 use Rattle.narration.specs.declared.deed.Deed.{Deed}
 use Rattle.narration.specs.declared.deed.Deed.TheVariants as deed
 
@@ -35,37 +31,33 @@ abbrev pub written_place : Option Candidate → List Row → Option Deed
 written_place None rows = None
 written_place (Some n) rows = Some (deed.Place (stamp_of (slice_index_or rows n.row None)).place)
 
--- the rows after a step that did this
-abbrev pub stepped_rows : Precedence → Progress → List Row → List Row
-stepped_rows precedes progress.Idle rows = rows
-stepped_rows precedes progress.Written rows = sent_rows (lowest_ready precedes rows) rows
-stepped_rows precedes progress.Flushed rows = leave (change bring_home rows)
-stepped_rows precedes progress.Blocked rows = rows
+-- the rows after a step, by its answer: 1 written, 2 flushed, else nothing was done
+abbrev pub stepped_rows : Precedence → ℕ → List Row → List Row
+stepped_rows precedes value rows =
+    cond (value == 1) (sent_rows (lowest_ready precedes rows) rows)
+    (cond (value == 2) (leave (change bring_home rows)) rows)
 
-abbrev pub stepped_deed : Precedence → Progress → List Row → Option Deed
-stepped_deed precedes progress.Idle rows = None
-stepped_deed precedes progress.Written rows = written_place (lowest_ready precedes rows) rows
-stepped_deed precedes progress.Flushed rows = None
-stepped_deed precedes progress.Blocked rows = None
+abbrev pub stepped_deed : Precedence → ℕ → List Row → Option Deed
+stepped_deed precedes value rows = cond (value == 1) (written_place (lowest_ready precedes rows) rows) None
 
 -- the rows after an accepted call with this answer
-abbrev pub rows_after : Precedence → TraceCall → Answer → List Row → List Row
-rows_after precedes (call.Begin place fill) a rows = begun_rows place fill (answer_value a) rows
-rows_after precedes (call.Finish ticket) a rows = change (finish_one ticket (answer_value a)) rows
-rows_after precedes (call.Withdraw ticket) a rows = leave (change (withdraw_one ticket) rows)
-rows_after precedes (call.Read place) a rows = rows
-rows_after precedes call.Step a rows = stepped_rows precedes (step_in a) rows
-rows_after precedes call.Seal a rows = rows
-rows_after precedes (call.Restart choice) a rows = change wait_again rows
-rows_after precedes (call.Cut choice) a rows = no_rows
+abbrev pub rows_after : Precedence → TraceCall → ℕ → List Row → List Row
+rows_after precedes (call.Begin place fill) value rows = begun_rows place fill value rows
+rows_after precedes (call.Finish ticket) value rows = change (finish_one ticket value) rows
+rows_after precedes (call.Withdraw ticket) value rows = leave (change (withdraw_one ticket) rows)
+rows_after precedes (call.Read place) value rows = rows
+rows_after precedes call.Step value rows = stepped_rows precedes value rows
+rows_after precedes call.Seal value rows = rows
+rows_after precedes (call.Restart choice) value rows = change wait_again rows
+rows_after precedes (call.Cut choice) value rows = no_rows
 
 -- what it wrote, if it wrote
-abbrev pub deed_in_order : Precedence → TraceCall → Answer → List Row → Option Deed
-deed_in_order precedes (call.Begin place fill) a rows = None
-deed_in_order precedes (call.Finish ticket) a rows = None
-deed_in_order precedes (call.Withdraw ticket) a rows = None
-deed_in_order precedes (call.Read place) a rows = None
-deed_in_order precedes call.Step a rows = stepped_deed precedes (step_in a) rows
-deed_in_order precedes call.Seal a rows = None
-deed_in_order precedes (call.Restart choice) a rows = None
-deed_in_order precedes (call.Cut choice) a rows = None
+abbrev pub deed_in_order : Precedence → TraceCall → ℕ → List Row → Option Deed
+deed_in_order precedes (call.Begin place fill) value rows = None
+deed_in_order precedes (call.Finish ticket) value rows = None
+deed_in_order precedes (call.Withdraw ticket) value rows = None
+deed_in_order precedes (call.Read place) value rows = None
+deed_in_order precedes call.Step value rows = stepped_deed precedes value rows
+deed_in_order precedes call.Seal value rows = None
+deed_in_order precedes (call.Restart choice) value rows = None
+deed_in_order precedes (call.Cut choice) value rows = None

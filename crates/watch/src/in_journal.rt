@@ -13,7 +13,6 @@ use disk::disk::BLOCK;
 use group::phase::Phase;
 use group::turn::advance;
 use head::head::MOST_PLACES;
-use listing::answer::Answer;
 use narration::deed::Deed;
 use std::marker::Model;
 use trace::call::TraceCall;
@@ -130,14 +129,11 @@ impl JournalWatch {
 impl Watch for JournalWatch {
     ghost deed = { λ w call _. deed_in_journal call w };
 
-    ghost moves = { λ w call answer after. after ≡ followed_after call answer w };
+    ghost moves = { λ w call value after. after ≡ followed_after call value w };
 
-    fn note(&mut self, call: TraceCall, answer: Answer) -> Option<Deed> {
+    fn note(&mut self, call: TraceCall, value: u32) -> Option<Deed> {
         match call {
-            // The mark by the answer's value: by a match of the call with its answer, the definitions would need a clause for each other answer too.
-            TraceCall::Begin { place, fill } => {
-                self.begun(usize::from(place), fill, answer.value());
-            }
+            TraceCall::Begin { place, fill } => self.begun(usize::from(place), fill, value),
             TraceCall::Finish { ticket } => self.finished(u32::from(ticket)),
             TraceCall::Withdraw { ticket } => self.withdrawn(u32::from(ticket)),
             TraceCall::Step => return self.stepped(),

@@ -7,8 +7,6 @@ ghost use Rattle.watch.specs.InOrder.{Followed, with_rows, begun_rows, written_p
 
 use crate::watch::Watch;
 use disk::disk::BLOCK;
-use errors::Progress;
-use listing::answer::Answer;
 use narration::deed::Deed;
 use precedence::Precedence;
 use std::marker::Model;
@@ -16,6 +14,11 @@ use table::held::{Change, Version};
 use table::rows::Table;
 use table::scan::lowest_ready;
 use trace::call::TraceCall;
+
+// The answers of a step that wrote, and of one that flushed.
+const WRITTEN: u32 = 1;
+
+const FLUSHED: u32 = 2;
 
 #[derive(Drop)]
 pub struct OrderedWatch<P> {
@@ -69,43 +72,35 @@ impl<P: Precedence> OrderedWatch<P> {
         Some(Deed::Place(stamp.place))
     }
 
-    fn stepped(&mut self, progress: Progress) -> Option<Deed>
-        ensures told { result ≡ stepped_deed (P.before self.old.order) progress self.old.rows }
-        ensures after { self.new ≡ with_rows self.old (stepped_rows (P.before self.old.order) progress self.old.rows) }
+    // The step's answer says that it wrote, flushed or did nothing.
+    fn stepped(&mut self, value: u32) -> Option<Deed>
+        ensures told { result ≡ stepped_deed (P.before self.old.order) value self.old.rows }
+        ensures after { self.new ≡ with_rows self.old (stepped_rows (P.before self.old.order) value self.old.rows) }
     {
-        match progress {
-            Progress::Written => return self.sent(),
-            Progress::Flushed => {
-                self.table.apply(Change::BringHome);
-                self.table.apply(Change::Leave);
-            }
-            Progress::Idle | Progress::Blocked => {}
+        if value == WRITTEN {
+            return self.sent();
+        }
+        if value == FLUSHED {
+            self.table.apply(Change::BringHome);
+            self.table.apply(Change::Leave);
         }
         None
     }
 }
 
 impl<P: Precedence> Watch for OrderedWatch<P> {
-    ghost deed = { λ w call answer. deed_in_order (P.Precedence.before w.order) call answer w.rows };
+    ghost deed = { λ w call value. deed_in_order (P.Precedence.before w.order) call value w.rows };
 
-    ghost moves = { λ w call answer after. after ≡ with_rows w (rows_after (P.Precedence.before w.order) call answer w.rows) };
+    ghost moves = { λ w call value after. after ≡ with_rows w (rows_after (P.Precedence.before w.order) call value w.rows) };
 
-    fn note(&mut self, call: TraceCall, answer: Answer) -> Option<Deed> {
+    fn note(&mut self, call: TraceCall, value: u32) -> Option<Deed> {
         match call {
-            // The mark by the answer's value: by a match of the call with its answer, the definitions would need a clause for each other answer too.
-            TraceCall::Begin { place, fill } => {
-                self.begun(usize::from(place), fill, answer.value());
-            }
+            TraceCall::Begin { place, fill } => self.begun(usize::from(place), fill, value),
             TraceCall::Finish { ticket } => {
-                self.table
-                    .apply(Change::Finish(u32::from(ticket), answer.value()));
+                self.table.apply(Change::Finish(u32::from(ticket), value));
             }
             TraceCall::Withdraw { ticket } => self.withdrawn(u32::from(ticket)),
-            TraceCall::Step => {
-                if let Answer::Step(progress) = answer {
-                    return self.stepped(progress);
-                }
-            }
+            TraceCall::Step => return self.stepped(value),
             TraceCall::Restart { choice: _ } => self.table.apply(Change::WaitAgain),
             TraceCall::Cut { choice: _ } => self.table = Table::new(),
             TraceCall::Read { place: _ } | TraceCall::Seal => {}
