@@ -16,10 +16,12 @@ use watch::watch::{Watch, deed_of};
 // Tells each call with its line, and with what it wrote.
 fn explain<W: Watch + Drop>(rt: &HostRuntime, trace: &Trace, mut watch: W) -> anyhow::Result<()> {
     let lines = play(rt.alloc(), trace)?;
-    for line in &lines {
+    for (call, line) in trace.calls.iter().zip(&lines) {
         let told = Told {
+            mode: trace.mode,
+            call: *call,
             line: *line,
-            deed: deed_of(&mut watch, *line),
+            deed: deed_of(&mut watch, *call, *line),
         };
         println!(rt; "{told}")?;
     }

@@ -21,10 +21,12 @@ fn tells<W: Watch + Drop>(
     if lines.len() != story.len() {
         return Err(Fail::new("a line for each call"));
     }
-    for (line, expected) in lines.iter().zip(story.iter()) {
+    for ((call, line), expected) in calls.iter().zip(&lines).zip(story) {
         let told = Told {
+            mode,
+            call: *call,
             line: *line,
-            deed: deed_of(&mut watch, *line),
+            deed: deed_of(&mut watch, *call, *line),
         };
         let text = format!(in heap; "{told}")?;
         if text.as_str() != *expected {
