@@ -24,18 +24,6 @@ answer_value (Recovered n) = n
 abbrev pub progress_of : ℕ → Progress
 progress_of n = cond (n == 0) progress.Idle (cond (n == 1) progress.Written (cond (n == 2) progress.Flushed progress.Blocked))
 
--- what a step's answer says that it did; of another answer nothing
-abbrev pub step_in : Answer → Progress
-step_in (Ticket n) = progress.Idle
-step_in (Mark n) = progress.Idle
-step_in Withdrawn = progress.Idle
-step_in (FirstByte byte) = progress.Idle
-step_in (Step p) = p
-step_in (Group n) = progress.Idle
-step_in Restarted = progress.Idle
-step_in Opened = progress.Idle
-step_in (Recovered n) = progress.Idle
-
 -- what a cache's number for an accepted call means
 abbrev pub numbered : TraceCall → ℕ → Answer
 numbered (call.Begin place fill) n = Ticket n
