@@ -1,16 +1,51 @@
 -- What a change, and one more version, do to the counts of a table, and its first vacant row.
-use Rattle.std.proofs.Common.{◌≡◌, ℕ, zero, suc, ◌+◌, ◌<◌, ◌≤◌, Bool, true, false, cond, not, ◌||◌, List, [], ◌∷◌, map, length, set, Some, None, filter, Option, sym, refl, ap, ◌∙◌, arith}
+use Rattle.std.proofs.Common.{◌≡◌, ℕ, zero, suc, ◌+◌, ◌<◌, ◌≤◌, Bool, true, false, cond, not, ◌||◌, List, [], ◌∷◌, map, length, get_or, drop, set, Some, None, filter, Option, sym, refl, ap, ◌∙◌, add-one, arith, drop-cons}
 use borrow.Author.Tests.{clash}
+use Rattle.std.proofs.lemmas.List.{drop_all}
 use Rattle.table.specs.declared.held.Version.{Version}
 use Rattle.table.specs.declared.held.Change.{Change}
 use Rattle.table.specs.declared.held.Change.TheVariants as change_of
 use Rattle.table.specs.declared.held.State.{State}
 use Rattle.table.specs.declared.held.State.TheVariants.{Sent}
 use Rattle.table.specs.Versions.{live, reserves, is_sent, has_ticket, in_state, finish_one, withdraw_one, bring_home, wait_again, some_pass, count, reserved, gone_count, room}
-use Rattle.table.specs.Rows.{Row, in_rows, put, Vacancy, change, keeping, leave, changed, finishes, ending, leaving, mark_sent}
+use Rattle.table.specs.Rows.{Row, in_rows, row_passes, put, Vacancy, change, keeping, leave, changed, finishes, ending, leaving, mark_sent}
 use Rattle.std.proofs.lemmas.Bool.Decides.{nat_tests}
-use Rattle.std.specs.List.{position_from}
+use Rattle.std.specs.List.{list_any, position_from}
 use Rattle.std.specs.Option.{is_none}
+
+-- ---- one more row of a scan
+
+module _ (p : Version → Bool) where
+  some_head : (r : Row) (rest : List Row) → some_pass p (in_rows (r ∷ rest)) ≡ (row_passes p r || some_pass p (in_rows rest))
+  some_head None rest = refl
+  some_head (Some v) rest = refl
+
+  module _ (rows : List Row) (i : ℕ) (h : i < length rows) where
+    opened : some_pass p (in_rows (drop i rows)) ≡ (row_passes p (get_or rows i None) || some_pass p (in_rows (drop (i + 1) rows)))
+    opened = rw (add-one i) (ap (λ l. some_pass p (in_rows l)) (drop-cons rows i None h) ∙ some_head (get_or rows i None) (drop (suc i) rows))
+
+    pub some_here : row_passes p (get_or rows i None) ≡ true → some_pass p (in_rows (drop i rows)) ≡ true
+    some_here e = opened ∙ ap (λ b. b || some_pass p (in_rows (drop (i + 1) rows))) e
+
+    pub some_later : row_passes p (get_or rows i None) ≡ false → some_pass p (in_rows (drop i rows)) ≡ some_pass p (in_rows (drop (i + 1) rows))
+    some_later e = opened ∙ ap (λ b. b || some_pass p (in_rows (drop (i + 1) rows))) e
+
+  pub some_end : (rows : List Row) (i : ℕ) → length rows ≤ i → some_pass p (in_rows (drop i rows)) ≡ false
+  some_end rows i h = rw (drop_all i rows h)
+
+  -- the rows that pass, and the versions
+  pub some_rows : (rows : List Row) → list_any (row_passes p) rows ≡ some_pass p (in_rows rows)
+  some_rows [] = refl
+  some_rows (r ∷ rows) = ap (λ b. row_passes p r || b) (some_rows rows) ∙ sym (some_head r rows)
+
+  pub found_rows : (rows : List Row) → length (filter (row_passes p) rows) ≡ length (filter p (in_rows rows))
+  found_rows [] = refl
+  found_rows (None ∷ rows) = found_rows rows
+  found_rows (Some v ∷ rows) = go (p v) (found_rows rows)
+    where
+      go : (k : Bool) → length (filter (row_passes p) rows) ≡ length (filter p (in_rows rows)) → length (cond k (Some v ∷ filter (row_passes p) rows) (filter (row_passes p) rows)) ≡ length (cond k (v ∷ filter p (in_rows rows)) (filter p (in_rows rows)))
+      go true e = omega arith
+      go false e = e
 
 -- ---- counts
 

@@ -12,7 +12,6 @@ use Rattle.table.specs.Scans.{candidate, in_table, lower_of, higher_of, best_fro
 use Rattle.std.specs.List.{AllByRecursion}
 use Rattle.std.proofs.lemmas.Bool.{ltb-true, ltb-false}
 use Rattle.std.proofs.ByRecursion.{All-weaker}
-use Rattle.std.proofs.lemmas.List.Recursion.{or_at}
 
 module _ (better : Option Candidate → Candidate → Option Candidate) (p : Version → Bool) (rows : List Row) (i : ℕ) (best : Option Candidate) where
   -- row i holds v
@@ -31,17 +30,19 @@ module _ (better : Option Candidate → Candidate → Option Candidate) (p : Ver
 
 -- ---- whether the candidate is ready
 
+-- whether u precedes v
+abbrev pub before : Precedence → Version → Version → Bool
+before precedes v u = precedes u.stamp v.stamp
+
 module _ (precedes : Precedence) (table : List Version) (v : Version) where
-  pub preceded : (u : Version) (i : ℕ) → i < length table → u ≡ get_or table i u → true ≡ precedes u.stamp v.stamp → ready precedes table v ≡ false
-  preceded u i lt at e =
-      let some_one = or_at (some_pass (λ u. precedes u.stamp v.stamp)) (λ u. precedes u.stamp v.stamp) refl (λ _ _. refl) table i u lt (rw (← at) (sym e)) in
-      rw some_one (go (is_waiting v.state))
+  pub preceded : some_pass (before precedes v) table ≡ true → ready precedes table v ≡ false
+  preceded e = rw e (go (is_waiting v.state))
     where
       go : (k : Bool) → (k && false) ≡ false
       go true = refl
       go false = refl
 
-  pub is_ready : true ≡ is_waiting v.state → some_pass (λ u. precedes u.stamp v.stamp) table ≡ false → ready precedes table v ≡ true
+  pub is_ready : true ≡ is_waiting v.state → some_pass (before precedes v) table ≡ false → ready precedes table v ≡ true
   is_ready w f = rw (← w, f)
 
 -- `is_some_and` and `is_none_or` answered r of the best so far, by a closure that compares its begin mark with the candidate's

@@ -41,6 +41,10 @@ test query.Sent v = is_sent v.state
 test query.Busy v = is_waiting v.state || is_sent v.state
 test (query.FinishedAt place) v = finished_in place v
 
+abbrev pub row_passes : (Version → Bool) → Row → Bool
+row_passes p None = false
+row_passes p (Some v) = p v
+
 -- ---- a version more
 
 -- the version goes into the lowest vacant row

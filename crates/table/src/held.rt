@@ -1,7 +1,7 @@
 // The versions that the table holds, and what is asked of them and done to them.
 ghost use Rattle.std.specs.Prelude.{◌≡◌};
 ghost use Rattle.table.specs.Versions.{begun};
-ghost use Rattle.table.specs.Rows.{stamp_of, bytes_of, test, changed};
+ghost use Rattle.table.specs.Rows.{stamp_of, bytes_of, test, row_passes, changed};
 
 use disk::disk::BLOCK;
 use precedence::Stamp;
@@ -76,6 +76,13 @@ pub enum Query {
 }
 
 impl Query {
+    // Whether the row holds what is looked for.
+    pub(crate) fn finds(self, row: &Option<Version>) -> bool
+        ensures { result ≡ row_passes (test self) row.now }
+    {
+        matches!(row, Some(v) if self.passes(v))
+    }
+
     // Whether the version is looked for.
     pub(crate) fn passes(self, v: &Version) -> bool
         ensures { result ≡ test self v.now }

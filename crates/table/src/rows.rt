@@ -27,14 +27,16 @@ impl Table {
     pub fn any(&self, query: Query) -> bool
         ensures { result ≡ some_pass (test query) (in_rows self.now.rows) }
     {
-        self.rows.iter().flatten().any(|v| query.passes(v))
+        self.rows.iter().any(|row| query.finds(row))
     }
 
     // How many rows hold what is looked for.
+    // Inlined, so that the query is known there and is not asked at each row.
+    #[inline]
     pub fn count(&self, query: Query) -> u32
         ensures { result ≡ length (filter (test query) (in_rows self.now.rows)) }
     {
-        let found = self.rows.iter().flatten().filter(|v| query.passes(v));
+        let found = self.rows.iter().filter(|row| query.finds(row));
         found.count() as u32
     }
 

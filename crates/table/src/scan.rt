@@ -1,12 +1,12 @@
 // The scans for one row: the ready write of lowest begin mark, and the newest finished write of a place.
 ghost use Rattle.std.specs.Prelude.{◌≡◌};
 ghost use Rattle.table.specs.Versions.{ready};
-ghost use Rattle.table.specs.Rows.{in_rows};
+ghost use Rattle.table.specs.Rows.{in_rows, row_passes};
 ghost use Rattle.table.specs.Scans.{in_table, lowest_ready, newest_at, Lowest};
 
-use crate::held::Query;
+use crate::held::{Query, Version};
 use crate::rows::Table;
-use precedence::Precedence;
+use precedence::{Precedence, Stamp};
 
 // A row and the begin mark of its version.
 #[derive(Clone, Copy)]
@@ -15,8 +15,17 @@ pub struct Candidate {
     pub begin: u32,
 }
 
+// Whether the row holds a write that precedes the stamp's.
+fn stops<P: Precedence>(row: &Option<Version>, order: &P, stamp: &Stamp) -> bool
+    ensures { result ≡ row_passes (λ u. P.before order.now u.stamp stamp.now) row.now }
+{
+    matches!(row, Some(u) if order.precedes(&u.stamp, stamp))
+}
+
 // The ready row of lowest begin mark: it waits, and no write in the table precedes it.
 // Two loops left by a label: the rules want the scan in this form.
+// Not inlined: within its caller each candidate is compared with all 32 rows before the first of them is looked at.
+#[inline(never)]
 pub fn lowest_ready<P: Precedence>(table: &Table, order: &P) -> Option<Candidate>
     ensures value { result ≡ lowest_ready (P.before order.now) table.now.rows }
     ensures found { Lowest (ready (P.before order.now) (in_rows table.now.rows)) table.now.rows result }
@@ -32,8 +41,8 @@ pub fn lowest_ready<P: Precedence>(table: &Table, order: &P) -> Option<Candidate
         if !Query::Waiting.passes(v) || best.is_some_and(|old| old.begin < begin) {
             continue;
         }
-        for u in table.rows.iter().flatten() {
-            if order.precedes(&u.stamp, &v.stamp) {
+        for other in table.rows.iter() {
+            if stops(other, order, &v.stamp) {
                 continue 'candidates;
             }
         }
