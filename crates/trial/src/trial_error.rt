@@ -18,8 +18,14 @@ pub enum TrialError {
     Endless,
     #[error("no disk can be made of {0:?}")]
     Unusable(#[from] Unusable),
-    #[error(transparent)]
-    Memory(#[from(alloc)] AllocError),
+    #[error("memory ran out")]
+    Memory,
     #[error(transparent)]
     Output(#[from] io::Error),
+}
+
+impl From<AllocError> for TrialError {
+    fn from(_: AllocError) -> TrialError {
+        TrialError::Memory
+    }
 }
