@@ -1,5 +1,5 @@
 // The step and the restart of the group under way.
-ghost use Rattle.std.specs.Prelude.{◌≡◌};
+ghost use Rattle.std.specs.Prelude.{◌≡◌, None};
 ghost use Rattle.journal_law.specs.Cache.{step as step_call, restart as restart_call, accepted};
 ghost use Rattle.journal_law.specs.Laws.{RunsOn};
 ghost use Rattle.journal.specs.Model.{model, does, stepped};
@@ -8,6 +8,15 @@ use crate::live::Live;
 use disk::disk::BenchDisk;
 use errors::{CacheCall, CacheError, Progress, during};
 use group::turn::advance;
+use group::under_way::UnderWay;
+
+// The group leaves the cache.
+// A function of its own: a function pays at entry for its locals, and each step would write the blank of a whole group.
+fn leave(group: &mut Option<UnderWay>)
+    ensures { group.new ≡ None }
+{
+    *group = None;
+}
 
 impl<D: BenchDisk> Live<D> {
     // Makes the disk call of the group's phase and moves on; a fault leaves phase and turn.
@@ -22,7 +31,7 @@ impl<D: BenchDisk> Live<D> {
         let turn = advance(under_way.phase, under_way.group.writes.len(), answer)?;
         match turn.phase {
             Some(phase) => under_way.phase = phase,
-            None => self.group = None,
+            None => leave(&mut self.group),
         }
         Ok(turn.progress)
     }

@@ -6,6 +6,7 @@ use Rattle.errors.specs.Errors.{progress_number}
 use Rattle.journal_law.specs.Cache.{step, Group, Answer, accepted, refused, with_group}
 use Rattle.batch.specs.Rows.{entries, write_in}
 use Rattle.group.specs.declared.phase.Phase.{Phase}
+use Rattle.group.specs.declared.under_way.UnderWay.{UnderWay}
 use Rattle.group.specs.Groups.{under_way}
 use Rattle.group.specs.Phases.{advanced}
 use Rattle.journal.specs.Model.{model, met, stepped}
@@ -65,6 +66,7 @@ returns-in-None g c =
     let t = c.in_ok-turn.turn in
     let count = c.len.ensures ∙ sym (length-map (entries G.writes) write_in) in
     let advances = c.in_ok-turn.ensures ∙ ap (advanced c.len.result u.phase) c.during-answer.ensures in
-    let e = ap (λ (o : Option Phase). record { answer = accepted (progress_number t.progress); live = with_group v m (under_at G o) }) (sym c.in-None.is)
+    let e = ap (λ (o : Option UnderWay). record { answer = accepted (progress_number t.progress); live = with_group v m (under_way o) }) c.leave.ensures
+    ∙ ap (λ (o : Option Phase). record { answer = accepted (progress_number t.progress); live = with_group v m (under_at G o) }) (sym c.in-None.is)
     ∙ step_ok v G u.phase g.D.Disk.attempts (g.D.Disk.rule s.disk) (ap under_way c.in-Some.is) c.len.result c.make.result m c.make.ensures count t advances in
     record { outcome = e; runs = runs_by device step v _ e }
