@@ -1,4 +1,7 @@
 ghost use Rattle.std.specs.Prelude.{◌≡◌, ◌≤◌, true};
+ghost use Rattle.disk.specs.Calls.{WritesBy};
+ghost use Rattle.head.specs.Head.{encode as encoded};
+ghost use Rattle.head.specs.Codes.{head_of};
 ghost use Rattle.journal_law.specs.Cache.{phase_call};
 ghost use Rattle.group.specs.Phases.{phase_of, in_turn};
 ghost use Rattle.group.specs.Groups.{group_of, sealed_of, Makes};
@@ -9,6 +12,15 @@ use crate::under_way::UnderWay;
 use disk::disk::Disk;
 use disk::error::DiskError;
 use head::head::Head;
+
+// Writes a head at its place.
+// Not inlined: a function pays at entry for its blocks, and of a group's calls two alone write a head.
+#[inline(never)]
+fn write_head<D: Disk>(disk: &mut D, home: usize, head: &Head) -> Result<(), DiskError>
+    ensures { WritesBy (D.rule disk.old (record { place = home; bytes = encoded (head_of head.now) })) D.attempts (D.medium disk.old) home (encoded (head_of head.now)) result (D.medium disk.new) }
+{
+    disk.write(home, &head.encode())
+}
 
 // Makes the disk call of a phase.
 pub fn make<D: Disk>(
@@ -23,12 +35,12 @@ pub fn make<D: Disk>(
 {
     match phase {
         Phase::Slot(i) => disk.write(home + 1 + i, &group.writes.entry(i).bytes),
-        Phase::Head => disk.write(home, &group.head().encode()),
+        Phase::Head => write_head(disk, home, &group.head()),
         Phase::Home(i) => {
             let entry = group.writes.entry(i);
             disk.write(entry.place, &entry.bytes)
         }
-        Phase::Empty => disk.write(home, &Head::empty(group.number).encode()),
+        Phase::Empty => write_head(disk, home, &Head::empty(group.number)),
         Phase::SlotsFlush | Phase::HeadFlush | Phase::HomesFlush | Phase::EmptyFlush => {
             disk.flush()
         }
