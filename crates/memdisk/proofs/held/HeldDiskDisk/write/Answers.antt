@@ -24,7 +24,8 @@ returns-then-self-lt-LOOSE_MAX c =
     let room : length m.loose < 8 = omega (arith, length_writes (held_in d.loose), length-take-le d.loose.count d.loose.writes (omega arith)) in
     let long : length w.bytes ≡ 512 = search rules in
     let same : c.in_ok-block.block.now ≡ w.bytes = search rules in
-    let pushed : writes_of (held_in c.push.new.self) ≡ m.loose ++ w ∷ [] = grind (arith, map_push) in
+    let pushed : writes_of (held_in c.push.new.self) ≡ m.loose ++ w ∷ [] =
+    ap writes_of c.push.ensures ∙ map_push as_write (held_in d.loose) _ ∙ ap (λ b. m.loose ++ record { place = c.args.place; bytes = b } ∷ []) same in
     let done : WritesBy join 1 m w.place w.bytes (Ok tt) (medium_of d.blocks (held_in c.push.new.self) c.admit.new.self) =
     wrote m c.count.result _ w.place w.bytes _ c.in_ok-admit.ensures c.count.ensures long (λ later. same_medium refl pushed later ∙ sym (put_joins m w room)) in
     record { outcome = done; either = joined_or_settled _ _ w.place w.bytes _ _ _ done; keeps = λ f v. refl }
